@@ -1,0 +1,2 @@
+pub mod FileMaps
+mod Worked

@@ -1,0 +1,9 @@
+pub mod Counts
+pub mod Files
+pub mod Reads
+pub mod Writes
+pub mod StoreCounts
+pub mod StoreState
+pub mod StoreView
+pub mod SinkState
+pub mod SinkView

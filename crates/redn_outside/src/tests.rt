@@ -1,0 +1,183 @@
+use crate::{Failed, MemSink, MemStore, ReadFault, Sink, StdSink, StdStore, Store, WriteFault};
+use std::alloc::Global;
+use std::cell::Cell;
+use std::fmt::Display;
+use std::io::ErrorKind;
+use std::test::Fail;
+use std::{env, fs, io, process};
+
+// Through the bounds: the file under one name goes to another name and out.
+fn copy<S: Store, K: Sink>(
+    alloc: Global,
+    store: &mut S,
+    out: &mut K,
+    from: &str,
+    to: &str,
+) -> Result<(), Fail> {
+    let bytes = store.read(alloc, from, 100)?;
+    store.write(alloc, to, bytes.as_slice())?;
+    out.put(bytes.as_slice())?;
+    Ok(())
+}
+
+fn read_fault<S: Store>(store: &mut S, alloc: Global, name: &str, limit: u32) -> Option<ReadFault> {
+    store.read(alloc, name, u64::from(limit)).err()
+}
+
+#[test]
+fn a_store_in_memory_holds_what_is_added_and_written(rt: HostRuntime) -> Result<(), Fail> {
+    let alloc = rt.alloc();
+    let mut store = MemStore::new(alloc, Vec::new(alloc));
+    let mut out = MemSink::new(alloc, Vec::new(alloc), 3)?;
+    store.add("a", &[9])?;
+    store.add("a", &[1, 2, 3])?;
+    copy(alloc, &mut store, &mut out, "a", "b")?;
+    assert_eq!(rt; store.get("b").ok_or("held")?, [1, 2, 3].as_slice());
+    assert_eq!(rt; out.written(), [1, 2, 3].as_slice());
+    assert!(rt; store.get("c").is_none());
+    assert_eq!(rt; store.read(alloc, "c", 9).err(), Some(ReadFault::Missing));
+    assert_eq!(rt; store.read(alloc, "a", 3)?.as_slice(), [1, 2, 3].as_slice());
+    assert_eq!(rt;
+        store.read(alloc, "a", 2).err(),
+        Some(ReadFault::Long { seen: 3 })
+    );
+    Ok(())
+}
+
+// A read of `a`, a write of `b` and a write of `a`, with one of them listed.
+#[test]
+fn a_listed_call_fails_and_leaves_the_files(rt: HostRuntime) -> Result<(), Fail> {
+    let alloc = rt.alloc();
+    let table = [
+        (0, [true, false, false], Some(7), 9),
+        (1, [false, true, false], None, 9),
+        (2, [false, false, true], Some(7), 5),
+        (3, [false, false, false], Some(7), 9),
+    ];
+    for (listed, fails, b, a) in table {
+        let mut store = MemStore::new(alloc, vec![in alloc; listed]?);
+        store.add("a", &[5])?;
+        let answers = [
+            read_fault(&mut store, alloc, "a", 1) == Some(ReadFault::Failed),
+            store.write(alloc, "b", &[7]).err() == Some(WriteFault::Failed),
+            store.write(alloc, "a", &[9]).err() == Some(WriteFault::Failed),
+        ];
+        assert_eq!(rt; answers, fails, "at {listed}");
+        let held = ["a", "b"].map(|name| store.get(name).and_then(|file| file.first().copied()));
+        assert_eq!(rt; held, [Some(a), b], "at {listed}");
+    }
+    Ok(())
+}
+
+// Room for 9 bytes, and the calls 1 and 3 are listed.
+#[test]
+fn a_put_appends_the_piece_or_half_or_nothing(rt: HostRuntime) -> Result<(), Fail> {
+    let alloc = rt.alloc();
+    let mut sink = MemSink::new(alloc, vec![in alloc; 1, 3]?, 9)?;
+    let table = [
+        ("abc", Ok(()), "abc"),
+        ("defgh", Err(Failed), "abcde"),
+        ("12345", Err(Failed), "abcde"),
+        ("12345", Err(Failed), "abcde"),
+        ("1234", Ok(()), "abcde1234"),
+        ("5", Err(Failed), "abcde1234"),
+    ];
+    for (piece, answer, written) in table {
+        assert_eq!(rt; sink.put(piece.as_bytes()), answer, "at {piece}");
+        assert_eq!(rt; sink.written(), written.as_bytes(), "at {piece}");
+    }
+    Ok(())
+}
+
+#[test]
+fn a_store_of_the_system_reads_what_it_wrote(rt: HostRuntime) -> Result<(), Fail> {
+    let alloc = rt.alloc();
+    let temp = env::temp_dir(&rt)?;
+    let number = process::id(rt.process());
+    let name = format!(in alloc; "{}/redn_outside_{}", temp.as_str(), number)?;
+    let bytes = vec![in alloc; 7; 20_000]?;
+    let mut store = StdStore::new(&rt);
+    store.write(alloc, name.as_str(), bytes.as_slice())?;
+    let whole = store.read(alloc, name.as_str(), 20_000)?;
+    let refused = read_fault(&mut store, alloc, name.as_str(), 19_999);
+    store.write(alloc, name.as_str(), &[])?;
+    let emptied = store.read(alloc, name.as_str(), 0)?;
+    fs::remove_file(&rt, name.as_str())?;
+    assert_eq!(rt; whole.as_slice(), bytes.as_slice());
+    assert_eq!(rt; refused, Some(ReadFault::Long { seen: 20_000 }));
+    assert_eq!(rt; emptied.len(), 0);
+    Ok(())
+}
+
+// A file without end, one that is not there, one below a file, and a folder.
+#[test]
+fn a_store_of_the_system_names_its_faults(rt: HostRuntime) {
+    let mut store = StdStore::new(&rt);
+    let reads = [
+        ("/dev/zero", ReadFault::Long { seen: 10_001 }),
+        ("/no folder of this name/file", ReadFault::Missing),
+        ("/dev/null/file", ReadFault::Failed),
+        ("/dev", ReadFault::Failed),
+    ];
+    for (name, fault) in reads {
+        let answer = read_fault(&mut store, rt.alloc(), name, 10_000);
+        assert_eq!(rt; answer, Some(fault), "at {name}");
+    }
+    for name in ["/no folder of this name/file", "/dev/null/file", "/dev"] {
+        let answer = store.write(rt.alloc(), name, &[1]).err();
+        assert_eq!(rt; answer, Some(WriteFault::Failed), "at {name}");
+    }
+}
+
+#[test]
+fn a_sink_of_the_system_prints(rt: HostRuntime) {
+    let mut sink = StdSink::new(&rt);
+    assert_eq!(rt; sink.put(b"a piece\n"), Ok(()));
+    assert_eq!(rt; sink.put(b""), Ok(()));
+}
+
+// Standard output that takes two bytes a call, and from the third call on none or fails.
+#[derive(Drop)]
+struct Stops {
+    calls: Cell<u64>,
+    fails: bool,
+}
+
+impl Print for Stops {
+    fn print<D: Display + Drop>(&self, _value: D) -> io::Result<()> {
+        Ok(())
+    }
+
+    fn println<D: Display + Drop>(&self, _value: D) -> io::Result<()> {
+        Ok(())
+    }
+
+    fn write_all(&self, _bytes: &[u8]) -> io::Result<()> {
+        Ok(())
+    }
+
+    fn write_some(&self, bytes: &[u8]) -> io::Result<usize> {
+        self.calls.set(self.calls.get().saturating_add(1));
+        if self.calls.get() < 3 {
+            Ok(bytes.len().min(2))
+        } else if self.fails {
+            Err(io::Error::from(ErrorKind::Interrupted))
+        } else {
+            Ok(0)
+        }
+    }
+}
+
+#[test]
+fn a_put_that_stops_in_mid_piece_is_a_fault(rt: HostRuntime) {
+    for fails in [false, true] {
+        let out = Stops {
+            calls: Cell::new(0),
+            fails,
+        };
+        let mut sink = StdSink::new(&out);
+        assert_eq!(rt; sink.put(b"abcd"), Ok(()));
+        assert_eq!(rt; sink.put(b"e"), Err(Failed));
+        assert_eq!(rt; sink.put(b""), Ok(()));
+    }
+}
