@@ -1,0 +1,184 @@
+ghost use Rattle.std.specs.Prelude.{◌≡◌, ◌++◌, ◌^◌, ◌<◌, ◌≤◌, ℕ, IfOk, OnOk, List, map, take, is_ok, if◌then◌else◌};
+ghost use Rattle.std.specs.List.{flat_map};
+ghost use Rattle.redn_words.specs.Words.{spelled};
+ghost use Rattle.redn_image.specs.Rules.{region_numbers, queue_numbers, kind_number, table_number};
+ghost use Rattle.redn_image.specs.Spelling.{spelled_region, spelled_queue, spelled_receive, spelled_header, Spells};
+
+use crate::image::Image;
+use byteorder::{BigEndian, ByteOrder};
+use redn_words::{Kind, Memory, QueueRow, Receive, Region};
+use std::alloc::Global;
+
+/// Adds the two bytes of a number, the greatest digit first.
+#[tactic(auto, unfolding(redn_words::specs::Words::spelled))]
+fn put_u16(out: &mut Vec<u8>, x: u16) -> Result<(), Memory>
+    ensures { OnOk result (out.new.items ≡ out.old.items ++ spelled 2 x) }
+{
+    let mut bytes = [0; 2];
+    BigEndian::write_u16(&mut bytes, x);
+    out.extend_from_slice(&bytes)?;
+    Ok(())
+}
+
+#[tactic(auto, unfolding(redn_words::specs::Words::spelled))]
+fn put_u32(out: &mut Vec<u8>, x: u32) -> Result<(), Memory>
+    ensures { OnOk result (out.new.items ≡ out.old.items ++ spelled 4 x) }
+{
+    let mut bytes = [0; 4];
+    BigEndian::write_u32(&mut bytes, x);
+    out.extend_from_slice(&bytes)?;
+    Ok(())
+}
+
+#[tactic(auto, unfolding(redn_words::specs::Words::spelled))]
+fn put_u64(out: &mut Vec<u8>, x: u64) -> Result<(), Memory>
+    ensures { OnOk result (out.new.items ≡ out.old.items ++ spelled 8 x) }
+{
+    let mut bytes = [0; 8];
+    BigEndian::write_u64(&mut bytes, x);
+    out.extend_from_slice(&bytes)?;
+    Ok(())
+}
+
+/// The numbers of a kind and of its table.
+fn kind_fields(kind: Kind) -> (u16, u32)
+    ensures { result ≡ (kind_number kind, table_number kind) }
+{
+    match kind {
+        Kind::Vars => (0, 0),
+        Kind::Table(table) => (1, u32::from(table)),
+        Kind::Code => (2, 0),
+        Kind::Control => (3, 0),
+        Kind::Message => (4, 0),
+    }
+}
+
+#[tactic(auto, unfolding(crate::specs::Spelling::spelled_region))]
+fn put_region(out: &mut Vec<u8>, r: &Region) -> Result<(), Memory>
+    ensures { OnOk result
+        (out.new.items ≡ out.old.items ++ spelled_region (region_numbers r.now)) }
+{
+    let (kind, table) = kind_fields(r.kind);
+    put_u32(out, r.key)?;
+    put_u16(out, r.domain)?;
+    put_u16(out, kind)?;
+    put_u32(out, table)?;
+    put_u32(out, u32::from(r.rights))?;
+    put_u64(out, r.base)?;
+    put_u64(out, r.len)
+}
+
+#[tactic(auto, unfolding(crate::specs::Spelling::spelled_queue))]
+fn put_queue(out: &mut Vec<u8>, q: &QueueRow) -> Result<(), Memory>
+    ensures { OnOk result (out.new.items ≡ out.old.items ++ spelled_queue (queue_numbers q.now)) }
+{
+    put_u32(out, u32::from(q.domain))?;
+    put_u32(out, u32::from(q.managed))?;
+    put_u64(out, q.base)?;
+    put_u64(out, q.slots)?;
+    put_u64(out, q.limit)
+}
+
+#[tactic(auto, unfolding(crate::specs::Spelling::spelled_receive))]
+fn put_receive(out: &mut Vec<u8>, r: &Receive) -> Result<(), Memory>
+    ensures { OnOk result (out.new.items ≡ out.old.items ++ spelled_receive r.now) }
+{
+    put_u64(out, r.base)?;
+    put_u64(out, r.len)
+}
+
+fn put_regions(out: &mut Vec<u8>, rows: &[Region]) -> Result<(), Memory>
+    ensures { OnOk result (out.new.items ≡
+        out.old.items ++ flat_map (λ r. spelled_region (region_numbers r)) rows.now) }
+{
+    for row in rows {
+        put_region(out, row)?;
+    }
+    Ok(())
+}
+
+fn put_queues(out: &mut Vec<u8>, rows: &[QueueRow]) -> Result<(), Memory>
+    ensures { OnOk result (out.new.items ≡
+        out.old.items ++ flat_map (λ q. spelled_queue (queue_numbers q)) rows.now) }
+{
+    for row in rows {
+        put_queue(out, row)?;
+    }
+    Ok(())
+}
+
+fn put_receives(out: &mut Vec<u8>, rows: &[Receive]) -> Result<(), Memory>
+    ensures { OnOk result (out.new.items ≡ out.old.items ++ flat_map spelled_receive rows.now) }
+{
+    for row in rows {
+        put_receive(out, row)?;
+    }
+    Ok(())
+}
+
+fn put_header(
+    out: &mut Vec<u8>,
+    regions: u32,
+    queues: u32,
+    receives: u32,
+    size: u64,
+) -> Result<(), Memory>
+    ensures { OnOk result
+        (out.new.items ≡ out.old.items ++ spelled_header regions queues receives size) }
+{
+    out.extend_from_slice(b"REDN")?;
+    put_u32(out, 1)?;
+    put_u32(out, regions)?;
+    put_u32(out, queues)?;
+    put_u32(out, receives)?;
+    put_u32(out, 0)?;
+    put_u64(out, size)
+}
+
+/// The bytes of an image.
+#[tactic(auto, unfolding(crate::specs::Spelling::spelling))]
+pub fn write_image(alloc: Global, i: &Image) -> Result<Vec<u8>, Memory>
+    ensures { IfOk result (λ bytes. Spells bytes.items i.now) }
+{
+    let mut out = Vec::new(alloc);
+    put_header(
+        &mut out,
+        i.regions.len() as u32,
+        i.queues.len() as u32,
+        i.receives.len() as u32,
+        i.memory.len() as u64,
+    )?;
+    put_regions(&mut out, &i.regions)?;
+    put_queues(&mut out, &i.queues)?;
+    put_receives(&mut out, &i.receives)?;
+    out.extend_from_slice(&i.memory)?;
+    Ok(out)
+}
+
+#[cfg(test)]
+mod tests {
+    use super::*;
+    use std::test::Fail;
+
+    #[test]
+    fn an_image_of_one_chain_is_its_header_and_its_receive_row(
+        rt: HostRuntime,
+    ) -> Result<(), Fail> {
+        let alloc = rt.alloc();
+        let regions = Vec::new(alloc);
+        let queues = Vec::new(alloc);
+        let receives = vec![in alloc; Receive { base: 0, len: 8 }]?;
+        let memory = vec![in alloc; 1, 2, 3, 4, 5, 6, 7, 8]?;
+        let image = Image {
+            regions,
+            queues,
+            receives,
+            memory,
+        };
+        let bytes = write_image(alloc, &image)?;
+        let hand_made = b"REDN\0\0\0\x01\0\0\0\0\0\0\0\0\0\0\0\x01\0\0\0\0\0\0\0\0\0\0\0\x08\
+            \0\0\0\0\0\0\0\0\0\0\0\0\0\0\0\x08\x01\x02\x03\x04\x05\x06\x07\x08";
+        assert_eq!(rt; bytes.as_slice(), hand_made.as_slice());
+        Ok(())
+    }
+}
