@@ -1,0 +1,10 @@
+pub mod Windows
+pub mod Flying
+pub mod Delivery
+pub mod FirstWords
+pub mod ReadWords
+pub mod Lands
+pub mod Misfits
+pub mod Starts
+pub mod Images
+mod Worked

@@ -1,0 +1,61 @@
+use Rattle.std.proofs.Common.{◌≡◌, ◌≤◌, List, ℕ, Option, Vec, Global, [], length, map, refl, sym, ap, ◌∙◌, arith}
+use Rattle.std.specs.Option.{option_map}
+use Rattle.std.proofs.lemmas.List.Elements.{All-map, All-weaker}
+use Rattle.redn_words.specs.declared.types.QueueRow.{QueueRow}
+use Rattle.redn_words.specs.States.{Chain, start, fresh_chain, fresh_queue}
+use Rattle.redn_image.specs.View.{image_view}
+use Rattle.redn_adapter.specs.AdapterView.{IsRing, IsQueueAt}
+use Rattle.redn_adapter.specs.Opening.{misfits}
+use Rattle.redn_adapter.proofs.Images.{image_inside, mails_fit}
+use Rattle.redn_adapter.proofs.Misfits.{none_first}
+use Rattle.redn_adapter.proofs.adapter.open.Goals as goal
+use Rattle.redn_adapter.proofs.adapter.open.Goals.{After-i, In_default}
+
+pub first_misfit-requires-clause-few : goal.first_misfit-requires-clause-few
+first_misfit-requires-clause-few c =
+    let inside = image_inside (image_view c.i.inside) c.i.invariant in
+    omega (arith, inside.few, ap length c.deref.ensures.value)
+
+pub first_queues-requires : goal.first_queues-requires
+first_queues-requires c =
+    let inside = image_inside (image_view c.i.inside) c.i.invariant in
+    let rows = c.i.inside.queues.items in
+    rw c.deref-3.ensures.value (All-weaker (IsRing (length c.i.inside.memory.items)) (λ (r : QueueRow). r.slots ≤ 65536) (λ r h. h.few) rows inside.queues)
+
+messages_of : List (Option (Vec ℕ Global)) → List (Option (List ℕ))
+messages_of kept = map (option_map (λ (v : Vec ℕ Global). v.items)) kept
+
+no_misfit : (c : In_default) → misfits 0 c.i.inside.receives.items (messages_of c.ms.inside.list.items) ≡ []
+unfolding messages_of
+no_misfit c =
+    let e = sym c.in_default.is ∙ c.first_misfit.ensures in
+    none_first _ (rw (c.deref.ensures.value, c.deref-2.ensures.value) at e)
+
+pub invariant_of-result : goal.invariant_of-result
+unfolding messages_of
+invariant_of-result c =
+    let at = (goal.at.invariant_of-result c).In_default in
+    let a = c.i.inside in
+    let size = length a.memory.items in
+    let inside = image_inside (image_view a) c.i.invariant in
+    let messages = messages_of c.ms.inside.list.items in
+    let rows = rw c.deref-3.ensures.value at c.in_ok-queues.ensures in
+    let ring = λ (row : QueueRow) (h : IsRing size row). let first : IsQueueAt size 0 (fresh_queue row) = record { ring = h; head = omega arith; counter = omega arith } in first in
+    record {
+      size = inside.size;
+      regions = inside.regions;
+      chains = rw c.in_ok-chains.ensures (All-map (λ (d : Chain). d.received ≤ 0) fresh_chain messages (λ k d l. omega arith));
+      receives = inside.receives;
+      mails = λ k l. rw c.in_ok-chains.ensures (mails_fit 0 a.receives.items messages (no_misfit at) k);
+      queues = rw rows (All-map (IsQueueAt size 0) fresh_queue a.queues.items (All-weaker (IsRing size) (λ (row : QueueRow). IsQueueAt size 0 (fresh_queue row)) ring a.queues.items inside.queues));
+    }
+
+pub returns-clause-state : goal.returns-clause-state
+unfolding start
+returns-clause-state c =
+    let rows = rw c.deref-3.ensures.value at c.in_ok-queues.ensures in
+    rw (← c.i.view_is, ← c.ms.view_is, rows, c.in_ok-chains.ensures) refl
+
+pub returns-clause-fits : goal.returns-clause-fits
+unfolding messages_of
+returns-clause-fits c = rw (← c.i.view_is, ← c.ms.view_is) (no_misfit (goal.at.returns-clause-fits c).In_default)
