@@ -1,0 +1,32 @@
+-- What is known of a line that was read.
+use Rattle.std.specs.Prelude.{◌≡◌, ℕ, Bool, true, not, ◌==◌, List, ◌∷◌, ◌++◌}
+use Rattle.std.specs.List.{list_all}
+use Rattle.redn_words.specs.declared.types.Action.{Action}
+use Rattle.redn_sched.specs.declared.line.Line.{Line}
+use Rattle.redn_sched.specs.declared.line.Line.TheVariants as line
+
+abbrev pub OnSkipped : Line → Type 0 → Type 0
+OnSkipped line.Skipped P = P
+OnSkipped (line.Action a) P = Unit {0}
+OnSkipped line.Bad P = Unit {0}
+
+abbrev pub IfAction : Line → (Action → Type 0) → Type 0
+IfAction line.Skipped P = Unit {0}
+IfAction (line.Action a) P = P a
+IfAction line.Bad P = Unit {0}
+
+abbrev pub OnBad : Line → Type 0 → Type 0
+OnBad line.Skipped P = Unit {0}
+OnBad (line.Action a) P = Unit {0}
+OnBad line.Bad P = P
+
+abbrev pub is_no_space : ℕ → Bool
+is_no_space b = not (b == 32)
+
+-- the text before its first space, and behind it
+pub record IsSplit (text front behind : List ℕ) : Type 0 where
+  pub is : text ≡ front ++ 32 ∷ behind
+  pub first : list_all is_no_space front ≡ true
+
+abbrev pub is_no_newline : ℕ → Bool
+is_no_newline b = not (b == 10)

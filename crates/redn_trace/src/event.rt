@@ -1,0 +1,121 @@
+ghost use Rattle.std.specs.Prelude.{◌≡◌, ◌≤◌, ◌+◌, ◌++◌, ◌∷◌, ◌↔◌, length, take, codes};
+ghost use Rattle.redn_words.specs.declared.types.Obs.TheVariants as shows;
+ghost use Rattle.redn_trace.specs.EventText.{event_text, line as line_of, field, IsPrintable};
+
+use itoa::Buffer;
+use redn_words::Obs;
+
+/// Puts a text into the buffer from a place on, and answers where it ends.
+fn put(buf: &mut [u8; 256], at: usize, text: &[u8]) -> usize
+    requires { at + length text.now ≤ 256 }
+    ensures end { result ≡ at + length text.now }
+    ensures front { take result buf.new ≡ take at buf.old ++ text.now }
+{
+    let end = at + text.len();
+    buf[at..end].copy_from_slice(text);
+    end
+}
+
+/// Puts a number behind a space.
+fn put_field(buf: &mut [u8; 256], at: usize, n: u64) -> usize
+    requires { at + 21 ≤ 256 }
+    ensures end { result ≤ at + 21 }
+    ensures front { take result buf.new ≡ take at buf.old ++ field n }
+{
+    let mut digits = Buffer::new();
+    let at = put(buf, at, b" ");
+    put(buf, at, digits.format(n).as_bytes())
+}
+
+/// Writes a line of a word and numbers to the front of the buffer, and answers its length.
+fn line(buf: &mut [u8; 256], word: &[u8], numbers: &[u64]) -> usize
+    requires short { length word.now ≤ 9 }
+    requires few { length numbers.now ≤ 9 }
+    ensures fits { result ≤ 256 }
+    ensures front { take result buf.new ≡ line_of word.now numbers.now }
+{
+    let mut at = put(buf, 0, word);
+    for n in numbers {
+        at = put_field(buf, at, *n);
+    }
+    put(buf, at, b"\n")
+}
+
+/// Writes the line of a reply of the first words.
+fn reply_line(buf: &mut [u8; 256], chain: u64, count: usize, words: &[u64; 8]) -> usize
+    requires { count ≤ 8 }
+    ensures fits { result ≤ 256 }
+    ensures front { take result buf.new ≡ line_of (codes "reply") (chain ∷ take count words.now) }
+{
+    let mut numbers = [chain; 9];
+    numbers[1..].copy_from_slice(words);
+    line(buf, b"reply", &numbers[..1 + count])
+}
+
+/// Writes an event's line to the front of the buffer, newline included, and answers its length: 0
+/// for `Nothing`. What stands behind it is open.
+#[tactic(auto, unfolding(crate::specs::EventText::event_text))]
+pub fn event_line(o: &Obs, buf: &mut [u8; 256]) -> usize
+    requires { IsPrintable o.now }
+    ensures fits { result ≤ 256 }
+    ensures front { take result buf.new ≡ event_text o.now }
+    ensures nothing { (result ≡ 0) ↔ (o.now ≡ shows.Nothing) }
+{
+    match *o {
+        Obs::Nothing => 0,
+        Obs::Set { chain, var, word } => {
+            line(buf, b"set", &[u64::from(chain), u64::from(var), word])
+        }
+        Obs::Load {
+            chain,
+            var,
+            table,
+            offset,
+            word,
+        } => line(
+            buf,
+            b"load",
+            &[
+                u64::from(chain),
+                u64::from(var),
+                u64::from(table),
+                offset,
+                word,
+            ],
+        ),
+        Obs::Look {
+            chain,
+            table,
+            offset,
+            word,
+        } => line(
+            buf,
+            b"look",
+            &[u64::from(chain), u64::from(table), offset, word],
+        ),
+        Obs::Store {
+            chain,
+            table,
+            offset,
+            word,
+        } => line(
+            buf,
+            b"store",
+            &[u64::from(chain), u64::from(table), offset, word],
+        ),
+        Obs::Reply {
+            chain,
+            count,
+            words,
+        } => reply_line(buf, u64::from(chain), count as usize, &words),
+        Obs::Fault {
+            chain,
+            table,
+            offset,
+        } => line(buf, b"fault", &[u64::from(chain), u64::from(table), offset]),
+        Obs::Stale { queue, index } => line(buf, b"stale", &[u64::from(queue), index]),
+        Obs::Undefined { queue, index } => line(buf, b"undefined", &[u64::from(queue), index]),
+        Obs::Refused { queue, index } => line(buf, b"refused", &[u64::from(queue), index]),
+        Obs::Odd { queue, index } => line(buf, b"odd", &[u64::from(queue), index]),
+    }
+}
