@@ -1,0 +1,11 @@
+pub mod SixItems
+pub mod Names
+pub mod Marks
+pub mod EchoRead
+pub mod FirstImageKeeps
+pub mod Found
+pub mod RunLemmas
+pub mod Printable
+pub mod Opens
+pub mod Answered
+pub mod Worked

@@ -1,0 +1,40 @@
+-- What a run under a schedule prints.
+use Rattle.std.specs.Prelude.{◌≡◌, ℕ, false, List, ◌∷◌, ◌++◌, map, codes, Option}
+use Rattle.std.specs.List.{flat_map}
+use Rattle.redn_words.specs.declared.types.Action.{Action}
+use Rattle.redn_words.specs.States.{State, start}
+use Rattle.redn_words.specs.Steps.{possible}
+use Rattle.redn_words.specs.Runs.{AllPossible, reached, all_shown}
+use Rattle.redn_image.specs.Rules.{Image}
+use Rattle.redn_trace.specs.EventText.{event_text}
+use Rattle.redn_sched.specs.declared.text.Numbered.{Numbered}
+
+-- the first state of an image with these messages
+abbrev pub first_of : Image → List (Option (List ℕ)) → State
+first_of i ms = start i.regions i.queues i.receives i.memory ms
+
+abbrev pub actions_of : List Numbered → List Action
+actions_of lines = map (λ (x : Numbered). x.action) lines
+
+-- the lines of the events that some actions show
+abbrev pub events_text : State → List Action → List ℕ
+events_text s acts = flat_map event_text (all_shown s acts)
+
+abbrev pub end_schedule : List ℕ
+end_schedule = codes "end schedule\n"
+
+-- all actions of the schedule are possible, and this is printed
+pub record RunsToEnd (s : State) (lines : List Numbered) (printed : List ℕ) : Type 0 where
+  pub all_possible : AllPossible s (actions_of lines)
+  pub text : printed ≡ events_text s (actions_of lines) ++ end_schedule
+
+-- the action of that line is the first that isn't possible, and the events before it are printed
+pub record StopsAt (s : State) (lines : List Numbered) (line : ℕ) (printed : List ℕ) : Type 0 where
+  pub before : List Numbered
+  pub here : Numbered
+  pub behind : List Numbered
+  pub lines_are : lines ≡ before ++ here ∷ behind
+  pub number : here.line ≡ line
+  pub possible_before : AllPossible s (actions_of before)
+  pub not_possible : possible (reached s (actions_of before)) here.action ≡ false
+  pub text : printed ≡ events_text s (actions_of before)
