@@ -1,0 +1,9 @@
+pub mod Lines
+pub mod TokenFacts
+pub mod Shapes
+pub mod Decided
+pub mod Aside
+pub mod Printed
+pub mod ReadBack
+pub mod Worked
+pub mod Readings
