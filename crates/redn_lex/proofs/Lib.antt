@@ -1,0 +1,4 @@
+pub mod Cuts
+pub mod Runs
+pub mod Lexing
+pub mod Steps

@@ -1,0 +1,11 @@
+//! From a source text to its tokens.
+#![tactic(auto)]
+
+mod fault;
+mod front;
+#[cfg(test)]
+mod tests;
+mod tokens;
+
+pub use fault::LexFault;
+pub use tokens::lex;
