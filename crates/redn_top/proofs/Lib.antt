@@ -8,4 +8,5 @@ pub mod RunLemmas
 pub mod Printable
 pub mod Opens
 pub mod Answered
+pub mod OneReason
 pub mod Worked

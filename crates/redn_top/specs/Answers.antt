@@ -106,6 +106,18 @@ abbrev pub Answers : List (List ℕ) → Option Files → Status → List ℕ �
 Answers words told s printed written =
     ((g : Go) × IsGo words g × AnswersGo g told s printed written) ⊎ (((g : Go) → ¬ IsGo words g) × AnswersOther s printed written)
 
+-- by the words, and by the files that are held, a command is refused with this status
+abbrev pub IsRefused : List (List ℕ) → Files → Status → Type 0
+IsRefused words files NotBuilt = ((g : Go) × IsGo words g × LacksPart (Some files) g) ⊎ ((g : Go) → ¬ IsGo words g)
+IsRefused words files Missing = (g : Go) × IsGo words g × LacksFile (Some files) g
+IsRefused words files _ = ⊥
+
+-- a run was begun
+abbrev pub IsRun : Status → Type 0
+IsRun Done = Unit {0}
+IsRun (Step line) = Unit {0}
+IsRun _ = ⊥
+
 -- the files after some writes
 abbrev pub with_written : List Written → Files → Files
 with_written [] files = files

@@ -1,13 +1,15 @@
 ghost use Rattle.std.specs.Prelude.{◌≡◌, ◌⊎◌, ◌≤◌, ℕ, List, Some, [], ◌∷◌, ◌++◌, length, map, string_bytes, IfOk, IfErr, OnOk};
 ghost use Rattle.std.specs.Option.{option_map};
 ghost use Rattle.redn_outside.specs.Counts.{Rose};
-ghost use Rattle.redn_outside.specs.Files.{with_file};
+ghost use Rattle.redn_outside.specs.Files.{Files, with_file};
 ghost use Rattle.redn_image.specs.Spelling.{Spells};
 ghost use Rattle.redn_adapter.specs.Opening.{opened};
 ghost use Rattle.redn_top.specs.StatusText.{OnReadFailed, OnWriteFailed, OnMissing};
 ghost use Rattle.redn_top.specs.FirstImage.{first_image as first_image_of};
-ghost use Rattle.redn_top.specs.Words.{go_view, IsGo};
-ghost use Rattle.redn_top.specs.Answers.{Answers, AnswersGo, IfSpoken, Grew, Stayed, status_of};
+ghost use Rattle.redn_sched.specs.declared.text.Numbered.{Numbered};
+ghost use Rattle.redn_top.specs.declared.status.Status.{Status};
+ghost use Rattle.redn_top.specs.Words.{Go, go_view, IsGo};
+ghost use Rattle.redn_top.specs.Answers.{Answers, AnswersGo, CanRun, IsRefused, IsRun, IfSpoken, Grew, Stayed, status_of};
 ghost use Rattle.redn_top.specs.Refusals.{WriteRefused, OpenRefused};
 
 use crate::first_image::first_image;
@@ -113,6 +115,11 @@ pub fn redn<S: Store, K: Sink>(
 ) -> Status
     ensures answers { IfSpoken result (Grew (S.told store.old) (S.told store.new)
         (K.told out.old) (K.told out.new) (Answers (map string_bytes words.now.items) (S.told store.old) result)) }
+    ensures refuses { (files : Files) → S.told store.old ≡ Some files → (s : Status)
+        → IsRefused (map string_bytes words.now.items) files s → IfSpoken result (result ≡ s) }
+    ensures runs { (files : Files) → S.told store.old ≡ Some files → (g : Go)
+        → IsGo (map string_bytes words.now.items) g → (message : List ℕ) → (lines : List Numbered)
+        → CanRun (Some files) g message lines → IfSpoken result (IsRun result) }
     ensures read_failed { OnReadFailed result
         (Rose (S.read_faults store.old) (S.read_faults store.new)) }
     ensures read_nothing { OnReadFailed result
