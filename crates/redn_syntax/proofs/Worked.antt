@@ -1,5 +1,5 @@
 -- Each statement once: its text, its tokens, its tree and its canonical text.
-use Rattle.std.proofs.Common.{arith, ◌≡◌, ℕ, true, false, inl, inr, List, [], ◌∷◌, ◌++◌, codes, refl, ap, subst, sym, ◌∙◌, Some, None}
+use Rattle.std.proofs.Common.{arith, ◌≡◌, ℕ, true, false, inl, inr, List, [], ◌∷◌, ◌++◌, codes, refl, ap, subst, sym, ◌∙◌, Some, None, take, drop}
 use Rattle.redn_syntax.specs.declared.token.Token.{Token}
 use Rattle.redn_syntax.specs.declared.token.TokenKind.{TokenKind}
 use Rattle.redn_syntax.specs.declared.token.TokenKind.TheVariants as k
@@ -14,9 +14,9 @@ use Rattle.redn_syntax.specs.declared.tree.StmtKind.{StmtKind, out-StmtKind}
 use Rattle.redn_syntax.specs.declared.tree.StmtKind.TheVariants as s
 use Rattle.redn_syntax.specs.declared.tree.StmtKind.TheOpen.{StmtKind-F}
 use Rattle.redn_syntax.specs.Tokens.{Tokenizes}
-use Rattle.redn_syntax.specs.Lexemes.{Lexeme, place_of, lexemes_of}
+use Rattle.redn_syntax.specs.Lexemes.{Fixed, Lexeme, place_of, lexemes_of}
 use Rattle.redn_syntax.specs.Grammar as g
-use Rattle.redn_syntax.specs.Grammar.{Phrase, SamePlace, block_within, HasTreeWithin, IsWritable}
+use Rattle.redn_syntax.specs.Grammar.{Phrase, SamePlace, block_within, HasTreeWithin, IsWritable, IsViable, ◌>>◌}
 use Rattle.redn_syntax.specs.Canonical as c
 use Rattle.redn_syntax.specs.Canonical.{text_of, canonical_text}
 use Rattle.redn_syntax.proofs.Shapes.{kind_in, kinds}
@@ -417,3 +417,20 @@ least_printed = rw (statement_is (stmt 8 (s.Reply ((operand.Num (number 5 14)) �
 
 pub least_writable : (f : File) → f ≡ least_tree → IsWritable f
 least_writable f e = writable least_text least_tokens f least_tokenized (1, subst (λ f. HasTreeWithin 1 least_text least_tokens f) (sym e) least_read)
+
+-- a file can go on behind the first brace of that one
+pub least_viable : IsViable (lexemes_of least_text (take 3 least_tokens))
+least_viable = (lexemes_of least_text (drop 3 least_tokens), least_tree, 1, least_read)
+
+-- no file begins with a semicolon
+pub semicolon_first : IsViable (Fixed k.Semicolon 0 ∷ []) → ⊥
+semicolon_first (more, f, depth, read) = none f.tables f.chains read
+  where
+    none : (tables : List Table) (chains : List Chain) → (g.each (g.table SamePlace) tables >> g.some (g.chain_within SamePlace depth) chains) (Fixed k.Semicolon 0 ∷ more) [] → ⊥
+    none [] [] (between, same, never) = never
+    none [] (first ∷ chains) (between, same, (after, chain, others)) =
+        let wrong : Fixed k.Semicolon 0 ∷ more ≡ Fixed k.Chain chain.1.0 ∷ chain.0 = same ∙ chain.1.1 in
+        cc wrong
+    none (first ∷ tables) chains (between, (after, table, others), rest) =
+        let wrong : Fixed k.Semicolon 0 ∷ more ≡ Fixed k.Table table.1.0 ∷ table.0 = table.1.1 in
+        cc wrong

@@ -41,26 +41,30 @@ fn put(out: &mut String, word: &str) -> Result<(), Memory>
 }
 
 fn put_mark(out: &mut String, kind: TokenKind) -> Result<(), Memory>
-    ensures { OnOk result (string_bytes out.new ≡ string_bytes out.old ++ spaced (canonical.mark kind)) }
+    ensures { OnOk result (string_bytes out.new
+        ≡ string_bytes out.old ++ spaced (canonical.mark kind)) }
 {
     put(out, kind.spelling())
 }
 
 fn put_name(out: &mut String, name: &Name) -> Result<(), Memory>
-    ensures { OnOk result (string_bytes out.new ≡ string_bytes out.old ++ spaced (canonical.name name.now)) }
+    ensures { OnOk result (string_bytes out.new
+        ≡ string_bytes out.old ++ spaced (canonical.name name.now)) }
 {
     put(out, name.text.as_str())
 }
 
 fn put_number(out: &mut String, number: Num) -> Result<(), Memory>
-    ensures { OnOk result (string_bytes out.new ≡ string_bytes out.old ++ spaced (canonical.number number)) }
+    ensures { OnOk result (string_bytes out.new
+        ≡ string_bytes out.old ++ spaced (canonical.number number)) }
 {
     let value = number.value;
     write!(out, "{value} ").map_err(|_| Memory)
 }
 
 fn put_value(out: &mut String, operand: &Operand) -> Result<(), Memory>
-    ensures { OnOk result (string_bytes out.new ≡ string_bytes out.old ++ spaced (canonical.value operand.now)) }
+    ensures { OnOk result (string_bytes out.new
+        ≡ string_bytes out.old ++ spaced (canonical.value operand.now)) }
 {
     match operand {
         Operand::Name(name) => put_name(out, name),
@@ -69,7 +73,8 @@ fn put_value(out: &mut String, operand: &Operand) -> Result<(), Memory>
 }
 
 fn put_slot(out: &mut String, table: &Name, offset: &Operand) -> Result<(), Memory>
-    ensures { OnOk result (string_bytes out.new ≡ string_bytes out.old ++ spaced (canonical.slot table.now offset.now)) }
+    ensures { OnOk result (string_bytes out.new
+        ≡ string_bytes out.old ++ spaced (canonical.slot table.now offset.now)) }
 {
     put_name(out, table)?;
     put_mark(out, TokenKind::OpenBracket)?;
