@@ -1,0 +1,20 @@
+pub mod Cases
+pub mod Piles
+pub mod Turns
+pub mod TestPrograms
+pub mod Stepping
+pub mod Arguments
+pub mod Misfits
+pub mod Fresh
+pub mod Weights
+pub mod First
+pub mod Does
+pub mod Statements
+pub mod Tables
+pub mod Padded
+pub mod SourceRuns
+mod Worked
+mod WorkedTables
+mod WorkedSound
+mod WorkedPrograms
+mod WorkedStates

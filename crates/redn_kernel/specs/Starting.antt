@@ -1,0 +1,26 @@
+-- Messages that don't fit their chains.
+use Rattle.std.specs.Prelude.{◌≡◌, ℕ, ◌+◌, ◌*◌, ◌==◌, if◌then◌else◌, List, [], ◌∷◌, ◌++◌, length, Option, Some, None}
+use Rattle.redn_kernel.specs.declared.types.ChainInit.{ChainInit}
+use Rattle.redn_kernel.specs.declared.start.StartFault.{StartFault}
+use Rattle.redn_kernel.specs.declared.start.StartFault.TheVariants as fault
+
+-- a message that hasn't 8 bytes for each argument
+abbrev pub misfit : ℕ → ChainInit → Option (List ℕ) → List StartFault
+misfit c chain None = []
+misfit c chain (Some bytes) = if length bytes == 8 * chain.args then [] else fault.Message c (length bytes) (8 * chain.args) ∷ []
+
+-- all of them, in the order of the chains, of which the first one here is c
+abbrev pub misfits : ℕ → List ChainInit → List (Option (List ℕ)) → List StartFault
+misfits c [] messages = []
+misfits c (chain ∷ chains) [] = []
+misfits c (chain ∷ chains) (m ∷ messages) = misfit c chain m ++ misfits (c + 1) chains messages
+
+abbrev pub FitsArguments : ChainInit → Option (List ℕ) → Type 0
+FitsArguments chain None = Unit {0}
+FitsArguments chain (Some bytes) = length bytes ≡ 8 * chain.args
+
+-- each message fits its chain
+abbrev pub AllFit : List ChainInit → List (Option (List ℕ)) → Type 0
+AllFit [] messages = Unit {0}
+AllFit (chain ∷ chains) [] = Unit {0}
+AllFit (chain ∷ chains) (m ∷ messages) = FitsArguments chain m × AllFit chains messages

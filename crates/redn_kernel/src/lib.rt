@@ -1,0 +1,15 @@
+//! Programs whose variables, tables and chains are numbers, and what their chains do.
+#![tactic(auto)]
+
+mod run;
+mod start;
+mod state;
+mod task;
+#[cfg(test)]
+mod tests;
+mod types;
+mod weight;
+
+pub use start::StartFault;
+pub use state::{SourceAnswer, SourceState};
+pub use types::{ChainInit, Kernel, Program, TableInit, Word};
