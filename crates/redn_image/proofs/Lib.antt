@@ -1,2 +1,3 @@
 pub mod Bounds
 mod Worked
+mod WorkedFaithful

@@ -1,3 +1,5 @@
 pub mod Rules
 pub mod View
 pub mod Spelling
+pub mod Agreement
+pub mod Faithful

@@ -1,0 +1,18 @@
+pub mod Slots
+pub mod OneQueue
+pub mod FirstRing
+pub mod FirstLandings
+pub mod FirstSource
+pub mod Marks
+pub mod Missing
+pub mod FirstStages
+pub mod FirstStarts
+pub mod FirstLands
+pub mod FirstRuns
+pub mod FirstGoesOn
+pub mod FirstFaithful
+pub mod Shapes
+pub mod Puts
+pub mod FirstKeeps
+pub mod Sound
+mod WorkedFirst
