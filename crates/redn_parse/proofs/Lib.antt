@@ -1,0 +1,13 @@
+pub mod Same
+pub mod Trees
+pub mod Passed
+pub mod Tokens
+pub mod Braces
+pub mod Lists
+pub mod Forms
+pub mod Sole
+pub mod Blocks
+pub mod Chains
+pub mod Placed
+pub mod Parsed
+pub mod Worked

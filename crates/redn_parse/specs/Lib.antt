@@ -1,0 +1,5 @@
+pub mod Lookahead
+pub mod Depth
+pub mod Places
+pub mod Reads
+pub mod Answers
