@@ -1,0 +1,7 @@
+use Rattle.std.proofs.Common.{◌≡◌, take, map}
+use Rattle.redn_check.specs.Numbering.{chain_init}
+use Rattle.redn_check.proofs.number.chains.Given as goal
+
+-- those so far
+abbrev pub invariant-loop-c : goal.invariant-loop-c
+invariant-loop-c l = l.list ≡ map (chain_init l.f.tables) (take l.c-index l.c-items)

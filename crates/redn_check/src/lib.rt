@@ -1,0 +1,17 @@
+//! The rules of a source file, and the program that an accepted file is.
+#![tactic(auto)]
+
+mod fault;
+mod flow;
+mod limits;
+mod names;
+mod number;
+mod rules;
+mod scope;
+mod statements;
+#[cfg(test)]
+mod tests;
+mod weight;
+
+pub use fault::CheckFault;
+pub use rules::check;
