@@ -1,12 +1,11 @@
+pub mod Worked
 pub mod SixItems
-pub mod Names
-pub mod Marks
-pub mod EchoRead
-pub mod FirstImageKeeps
-pub mod Found
+pub mod TokenPlaces
+pub mod SourceFaults
 pub mod RunLemmas
 pub mod Printable
+pub mod Planning
 pub mod Opens
 pub mod Answered
+pub mod Checking
 pub mod OneReason
-pub mod Worked

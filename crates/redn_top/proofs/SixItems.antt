@@ -16,3 +16,9 @@ pub two_then_rest : (xs : List ℕ) (a b : ℕ) → 2 ≤ length xs → get_or x
 two_then_rest [] a b l p q = absurd (omega arith)
 two_then_rest (x ∷ []) a b l p q = absurd (omega arith)
 two_then_rest (x ∷ y ∷ xs) a b l p q = let all : take (length (x ∷ y ∷ xs) - 2) xs ≡ xs = take_all (length (x ∷ y ∷ xs) - 2) xs (omega arith) in rw all cc
+
+pub two_items : {A : Type 0} (xs : List A) (a b : A) → 2 ≤ length xs → length xs < 3 → a ≡ get_or xs 0 a → b ≡ get_or xs 1 b → xs ≡ a ∷ b ∷ []
+two_items [] a b low high p q = absurd (omega arith)
+two_items (x0 ∷ []) a b low high p q = absurd (omega arith)
+two_items (x0 ∷ x1 ∷ []) a b low high p q = cc
+two_items (x0 ∷ x1 ∷ x2 ∷ xs) a b low high p q = absurd (omega arith)

@@ -1,7 +1,6 @@
 pub mod StatusText
 pub mod Words
-pub mod FirstForm
-pub mod FirstImage
+pub mod Sources
 pub mod RunText
 pub mod Answers
 pub mod Refusals

@@ -1,17 +1,12 @@
 -- What a run under a schedule prints.
-use Rattle.std.specs.Prelude.{◌≡◌, ℕ, false, List, ◌∷◌, ◌++◌, map, codes, Option}
+use Rattle.std.specs.Prelude.{◌≡◌, ℕ, false, List, ◌∷◌, ◌++◌, map, codes}
 use Rattle.std.specs.List.{flat_map}
 use Rattle.redn_words.specs.declared.types.Action.{Action}
-use Rattle.redn_words.specs.States.{State, start}
+use Rattle.redn_words.specs.States.{State}
 use Rattle.redn_words.specs.Steps.{possible}
 use Rattle.redn_words.specs.Runs.{AllPossible, reached, all_shown}
-use Rattle.redn_image.specs.Rules.{Image}
 use Rattle.redn_trace.specs.EventText.{event_text}
 use Rattle.redn_sched.specs.declared.text.Numbered.{Numbered}
-
--- the first state of an image with these messages
-abbrev pub first_of : Image → List (Option (List ℕ)) → State
-first_of i ms = start i.regions i.queues i.receives i.memory ms
 
 abbrev pub actions_of : List Numbered → List Action
 actions_of lines = map (λ (x : Numbered). x.action) lines

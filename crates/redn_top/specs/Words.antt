@@ -23,3 +23,8 @@ pub record IsGo (words : List (List ℕ)) (g : Go) : Type 0 where
 -- the words as they are kept
 abbrev pub go_view : GoWords → Go
 go_view w = record { file = w.file.now; image = w.image.now; schedule = w.schedule.now; hex = w.hex.now }
+
+-- `check FILE`
+pub record IsCheck (words : List (List ℕ)) (file : List ℕ) : Type 0 where
+  pub are : words ≡ codes "check" ∷ file ∷ []
+  pub name : IsName file

@@ -1,14 +1,14 @@
+//! The commands, over any store of files and any sink for what is printed.
 #![tactic(auto)]
 
-mod first_form;
-mod first_image;
 mod reading;
 mod run;
+mod source;
 mod status;
 #[cfg(test)]
 mod tests;
 mod top;
 mod words;
 
-pub use status::{Status, status_code, status_line};
+pub use status::{Status, TextFault, status_code, status_line};
 pub use top::redn;

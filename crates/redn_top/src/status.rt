@@ -1,7 +1,17 @@
-ghost use Rattle.std.specs.Prelude.{◌≡◌, ◌≤◌, ◌+◌, ◌++◌, length, take, decimal};
+ghost use Rattle.std.specs.Prelude.{◌≡◌, ◌≤◌, ◌+◌, ◌++◌, length, take, decimal, codes};
 ghost use Rattle.redn_top.specs.StatusText.{code_of, status_text};
 
 use itoa::Buffer;
+
+/// Where a source text goes wrong. Places are in bytes; behind the last token it is the text's
+/// length.
+#[derive(Clone, Copy, Debug, PartialEq, Eq)]
+pub enum TextFault {
+    /// No token goes on there, a number is too wide, or no file goes on with the token there.
+    Byte { at: u64 },
+    /// The brace that opens a 65th nested block.
+    Nesting { at: u64 },
+}
 
 /// How a command ended.
 #[derive(Clone, Copy, Debug, PartialEq, Eq)]
@@ -10,16 +20,22 @@ pub enum Status {
     Done,
     /// A file could not be read.
     ReadFailed,
+    /// There is no such file to read.
+    Missing,
     /// A file or a line could not be written.
     WriteFailed,
+    /// A file has more bytes than may be read. `seen` is one more than the limit.
+    Long { seen: u64, limit: u64 },
+    /// The source text has no tree, or one that is nested too deep.
+    Text(TextFault),
+    /// A rule fails: the least place, then the least rule, with the number that was seen, or 0.
+    Program { rule: u8, at: u32, seen: u64 },
     /// Want of memory.
     Memory,
     /// The action of this line of the schedule isn't possible.
     Step { line: u64 },
     /// What is asked isn't built yet.
     NotBuilt,
-    /// There is no such file to read.
-    Missing,
 }
 
 /// The status with which the process ends.
@@ -30,6 +46,9 @@ pub fn status_code(s: &Status) -> u8
         Status::Done => 0,
         Status::ReadFailed => 3,
         Status::WriteFailed => 4,
+        Status::Long { .. } => 5,
+        Status::Text(_) => 6,
+        Status::Program { .. } => 7,
         Status::Memory => 9,
         Status::Step { .. } => 11,
         Status::NotBuilt => 13,
@@ -48,6 +67,40 @@ fn put(buf: &mut [u8; 128], at: usize, text: &[u8]) -> usize
     end
 }
 
+/// Puts a number in decimal digits.
+fn put_number(buf: &mut [u8; 128], at: usize, number: u64) -> usize
+    requires { at ≤ 108 }
+    ensures within { result ≤ at + 20 }
+    ensures front { take result buf.new ≡ take at buf.old ++ decimal number }
+{
+    let mut digits = Buffer::new();
+    put(buf, at, digits.format(number).as_bytes())
+}
+
+/// Puts a number between two texts.
+fn put_around(buf: &mut [u8; 128], before: &[u8], number: u64, behind: &[u8]) -> usize
+    requires { length before.now + length behind.now ≤ 108 }
+    ensures fits { result ≤ 128 }
+    ensures line { take result buf.new ≡ before.now ++ decimal number ++ behind.now }
+{
+    let at = put(buf, 0, before);
+    let at = put_number(buf, at, number);
+    put(buf, at, behind)
+}
+
+/// The line of a rule that fails.
+fn put_rule(buf: &mut [u8; 128], rule: u8, at: u32) -> usize
+    ensures fits { result ≤ 128 }
+    ensures line { take result buf.new
+        ≡ codes "redn: program refused: rule " ++ decimal rule ++ codes " at byte " ++ decimal at ++ codes "\n" }
+{
+    let end = put(buf, 0, b"redn: program refused: rule ");
+    let end = put_number(buf, end, u64::from(rule));
+    let end = put(buf, end, b" at byte ");
+    let end = put_number(buf, end, u64::from(at));
+    put(buf, end, b"\n")
+}
+
 /// Writes the line for standard error, newline included, to the front of the buffer, and answers
 /// its length: 0 for `Done`.
 pub fn status_line(s: &Status, buf: &mut [u8; 128]) -> usize
@@ -58,12 +111,19 @@ pub fn status_line(s: &Status, buf: &mut [u8; 128]) -> usize
         Status::Done => 0,
         Status::ReadFailed => put(buf, 0, b"redn: read failed\n"),
         Status::WriteFailed => put(buf, 0, b"redn: write failed\n"),
+        Status::Long { limit, .. } => {
+            put_around(buf, b"redn: file too long: limit ", *limit, b"\n")
+        }
+        Status::Text(TextFault::Byte { at }) => {
+            put_around(buf, b"redn: text refused: byte ", *at, b"\n")
+        }
+        Status::Text(TextFault::Nesting { at }) => {
+            put_around(buf, b"redn: text refused: nesting at byte ", *at, b"\n")
+        }
+        Status::Program { rule, at, .. } => put_rule(buf, *rule, *at),
         Status::Memory => put(buf, 0, b"redn: out of memory\n"),
         Status::Step { line } => {
-            let mut digits = Buffer::new();
-            let at = put(buf, 0, b"redn: step not possible: line ");
-            let at = put(buf, at, digits.format(*line).as_bytes());
-            put(buf, at, b"\n")
+            put_around(buf, b"redn: step not possible: line ", *line, b"\n")
         }
         Status::NotBuilt => put(buf, 0, b"redn: not built\n"),
         Status::Missing => put(buf, 0, b"redn: file missing\n"),

@@ -1,11 +1,14 @@
-use crate::status::{Status, status_code, status_line};
+use crate::status::{Status, TextFault, status_code, status_line};
 use crate::top::redn;
 use redn_outside::{MemSink, MemStore};
 use redn_words::Memory;
 use std::alloc::Global;
+use std::fmt::Write;
 use std::test::Fail;
 
 const ECHO: &[u8] = b"chain echo { arg k; reply k; }";
+
+const MESSAGE: &str = "0=000000000000002a";
 
 const IN_ORDER: &[u8] =
     b"d 0\nf 0 0\ns 0\nf 0 1\ns 0\nl 0 1\nc 0\nf 0 2\ns 0\nf 0 3\ns 0\nl 0 3\nc 0\nf 0 4\ns 0\n\
@@ -39,7 +42,7 @@ fn with_words(
     for word in list {
         words.push(String::from_str(alloc, word)?)?;
     }
-    let mut out = MemSink::new(alloc, numbers(alloc, sink_fails)?, 1000)?;
+    let mut out = MemSink::new(alloc, numbers(alloc, sink_fails)?, 200_000)?;
     let status = redn(alloc, &words, store, &mut out);
     let printed = Vec::from_slice(alloc, out.written())?;
     let image = store.get("e.img").map(|bytes| bytes.len());
@@ -51,34 +54,127 @@ fn with_words(
 }
 
 /// `go` over a store with these two files, in which these calls fail.
-fn go(
+fn go_failing(
     alloc: Global,
     source: &[u8],
     schedule: &[u8],
+    message: &str,
     store_fails: &[u64],
     sink_fails: &[u64],
 ) -> Result<Outcome, Memory> {
     let mut store = MemStore::new(alloc, numbers(alloc, store_fails)?);
     store.add("e.redn", source)?;
     store.add("s.txt", schedule)?;
-    let words = [
-        "go",
-        "e.redn",
-        "e.img",
-        "--schedule",
-        "s.txt",
-        "0=000000000000002a",
-    ];
+    let words = ["go", "e.redn", "e.img", "--schedule", "s.txt", message];
     with_words(alloc, &words, &mut store, sink_fails)
+}
+
+fn go(alloc: Global, source: &[u8], schedule: &[u8], message: &str) -> Result<Outcome, Memory> {
+    go_failing(alloc, source, schedule, message, &[], &[])
+}
+
+/// `check` of a store that holds this file alone.
+fn check(alloc: Global, source: &[u8]) -> Result<Outcome, Memory> {
+    let mut store = MemStore::new(alloc, Vec::new(alloc));
+    store.add("e.redn", source)?;
+    with_words(alloc, &["check", "e.redn"], &mut store, &[])
 }
 
 #[test]
 fn echo_replies_its_argument(rt: HostRuntime) -> Result<(), Fail> {
     for schedule in [IN_ORDER, PREFETCHED] {
-        let outcome = go(rt.alloc(), ECHO, schedule, &[], &[])?;
+        let outcome = go(rt.alloc(), ECHO, schedule, MESSAGE)?;
         assert_eq!(rt; outcome.status, Status::Done);
         assert_eq!(rt; outcome.printed.as_slice(), PRINTED);
         assert_eq!(rt; outcome.image, Some(584));
+    }
+    Ok(())
+}
+
+/// A schedule of a chain of so many arguments and reply words that takes one request after the
+/// other.
+fn in_order(alloc: Global, args: u8, words: u8) -> Result<String, Fail> {
+    let mut text = String::new(alloc);
+    let args = usize::from(args);
+    let copied = 1 + 2 * args + usize::from(words);
+    text.write_str("d 0\n")?;
+    for i in 0..copied + 2 {
+        write!(text, "f 0 {i}\ns 0\n")?;
+        let waits = i == copied || (i <= 2 * args && i % 2 == 0);
+        if !waits {
+            write!(text, "l 0 {i}\nc 0\n")?;
+        }
+    }
+    Ok(text)
+}
+
+/// The same with all requests fetched before the message, and the copies landing backwards.
+fn prefetched(alloc: Global, args: u8, words: u8) -> Result<String, Fail> {
+    let mut text = String::new(alloc);
+    let (args, words) = (usize::from(args), usize::from(words));
+    let copied = 1 + 2 * args + words;
+    for i in 0..copied + 2 {
+        write!(text, "f 0 {i}\n")?;
+    }
+    text.write_str("d 0\ns 0\n")?;
+    for i in 0..args {
+        let taken = 1 + 2 * i;
+        write!(text, "s 0\nl 0 {taken}\nc 0\ns 0\n")?;
+    }
+    for _ in 0..words {
+        text.write_str("s 0\n")?;
+    }
+    for j in (0..words).rev() {
+        let copy = 1 + 2 * args + j;
+        write!(text, "l 0 {copy}\n")?;
+    }
+    for _ in 0..words {
+        text.write_str("c 0\n")?;
+    }
+    let sent = copied + 1;
+    write!(text, "s 0\ns 0\nl 0 {sent}\n")?;
+    Ok(text)
+}
+
+#[test]
+fn up_to_eight_arguments_are_replied_in_any_order(rt: HostRuntime) -> Result<(), Fail> {
+    let alloc = rt.alloc();
+    let eight = "0=0000000000000001000000000000000200000000000000030000000000000004\
+                 0000000000000005000000000000000600000000000000070000000000000008";
+    let chains: [(&[u8], u8, u8, &str, &[u8]); 3] = [
+        (
+            b"chain c { arg a; arg b; arg c; arg d; arg e; arg f; arg g; arg h; \
+            reply h, g, f, e, d, c, b, a; }",
+            8,
+            8,
+            eight,
+            b"set 0 0 1\nset 0 1 2\nset 0 2 3\nset 0 3 4\nset 0 4 5\nset 0 5 6\nset 0 6 7\n\
+            set 0 7 8\nreply 0 8 7 6 5 4 3 2 1\nend schedule\n",
+        ),
+        (
+            b"chain c { arg a; reply a, a, a, a, a, a, a, a; }",
+            1,
+            8,
+            "0=00000000000000ff",
+            b"set 0 0 255\nreply 0 255 255 255 255 255 255 255 255\nend schedule\n",
+        ),
+        (
+            b"chain c { arg a; arg b; arg c; reply c; }",
+            3,
+            1,
+            "0=00000000000000010000000000000002ffffffffffffffff",
+            b"set 0 0 1\nset 0 1 2\nset 0 2 18446744073709551615\n\
+            reply 0 18446744073709551615\nend schedule\n",
+        ),
+    ];
+    for (source, args, words, message, printed) in chains {
+        let plain = in_order(alloc, args, words)?;
+        let early = prefetched(alloc, args, words)?;
+        for schedule in [plain.as_bytes(), early.as_bytes()] {
+            let outcome = go(alloc, source, schedule, message)?;
+            assert_eq!(rt; outcome.status, Status::Done, "{args} {words}");
+            assert_eq!(rt; outcome.printed.as_slice(), printed, "{args} {words}");
+        }
     }
     Ok(())
 }
@@ -91,7 +187,7 @@ fn each_call_of_the_outside_fails_in_turn(rt: HostRuntime) -> Result<(), Fail> {
         (1, Status::ReadFailed),
         (2, Status::WriteFailed),
     ] {
-        let outcome = go(alloc, ECHO, IN_ORDER, &[call], &[])?;
+        let outcome = go_failing(alloc, ECHO, IN_ORDER, MESSAGE, &[call], &[])?;
         assert_eq!(rt; outcome.status, status, "store call {call}");
         assert!(rt; outcome.printed.is_empty(), "store call {call}");
         assert_eq!(rt; outcome.image, None, "store call {call}");
@@ -102,7 +198,7 @@ fn each_call_of_the_outside_fails_in_turn(rt: HostRuntime) -> Result<(), Fail> {
         b"set 0 0 42\nreply 0 42\nend sc",
     ];
     for (call, printed) in halves.iter().enumerate() {
-        let outcome = go(alloc, ECHO, IN_ORDER, &[], &[call as u64])?;
+        let outcome = go_failing(alloc, ECHO, IN_ORDER, MESSAGE, &[], &[call as u64])?;
         assert_eq!(rt; outcome.status, Status::WriteFailed, "sink call {call}");
         assert_eq!(rt; outcome.printed.as_slice(), *printed, "sink call {call}");
         assert_eq!(rt; outcome.image, Some(584), "sink call {call}");
@@ -112,12 +208,12 @@ fn each_call_of_the_outside_fails_in_turn(rt: HostRuntime) -> Result<(), Fail> {
 
 #[test]
 fn a_step_that_is_not_possible_ends_the_run_at_its_line(rt: HostRuntime) -> Result<(), Fail> {
-    let outcome = go(rt.alloc(), ECHO, b"d 0\ns 0\n", &[], &[])?;
+    let outcome = go(rt.alloc(), ECHO, b"d 0\ns 0\n", MESSAGE)?;
     assert_eq!(rt; outcome.status, Status::Step { line: 2 });
     assert!(rt; outcome.printed.is_empty());
     assert_eq!(rt; outcome.image, Some(584));
     let late = b"# the message comes twice\nd 0\n\nf 0 0\ns 0\nf 0 1\ns 0\nl 0 1\nd 0";
-    let outcome = go(rt.alloc(), ECHO, late, &[], &[])?;
+    let outcome = go(rt.alloc(), ECHO, late, MESSAGE)?;
     assert_eq!(rt; outcome.status, Status::Step { line: 9 });
     assert_eq!(rt; outcome.printed.as_slice(), b"set 0 0 42\n".as_slice());
     Ok(())
@@ -129,14 +225,7 @@ fn a_missing_file_leaves_all_as_it_was(rt: HostRuntime) -> Result<(), Fail> {
     for held in ["e.redn", "s.txt", "other"] {
         let mut store = MemStore::new(alloc, Vec::new(alloc));
         store.add(held, if held == "e.redn" { ECHO } else { IN_ORDER })?;
-        let words = [
-            "go",
-            "e.redn",
-            "e.img",
-            "--schedule",
-            "s.txt",
-            "0=000000000000002a",
-        ];
+        let words = ["go", "e.redn", "e.img", "--schedule", "s.txt", MESSAGE];
         let outcome = with_words(alloc, &words, &mut store, &[])?;
         assert_eq!(rt; outcome.status, Status::Missing, "only {held}");
         assert!(rt; outcome.printed.is_empty(), "only {held}");
@@ -146,63 +235,53 @@ fn a_missing_file_leaves_all_as_it_was(rt: HostRuntime) -> Result<(), Fail> {
 }
 
 #[test]
-fn what_is_not_built_is_refused(rt: HostRuntime) -> Result<(), Fail> {
+fn a_source_is_refused_in_this_order(rt: HostRuntime) -> Result<(), Fail> {
     let alloc = rt.alloc();
-    let sources: [&[u8]; 7] = [
-        b"",
-        b"chain echo { arg k; reply j; }",
-        b"chain echo { arg k; reply k; }\n\n",
-        b"chain echo {arg k; reply k; }",
-        b"chain 9 { arg k; reply k; }",
-        b"chain echo { arg if; reply if; }",
-        b"chain echo { arg abcdefghijklmnopqrstuvwxyz_012345; reply abcdefghijklmnopqrstuvwxyz_012345; }",
+    let sources: [(&[u8], &[u8], Status); 6] = [
+        (
+            b"chain echo { arg k; reply k }",
+            b"x",
+            Status::Text(TextFault::Byte { at: 28 }),
+        ),
+        (
+            b"chain echo { arg k; reply j; }",
+            b"x",
+            Status::Program {
+                rule: 1,
+                at: 26,
+                seen: 0,
+            },
+        ),
+        (b"chain z { reply 7; }", b"d 0", Status::NotBuilt),
+        (
+            b"chain c { arg k; var x; reply k; }",
+            b"d 0",
+            Status::NotBuilt,
+        ),
+        (ECHO, b"d 0\nx\n", Status::NotBuilt),
+        (ECHO, b"d 00", Status::NotBuilt),
     ];
-    for source in sources {
-        let outcome = go(alloc, source, IN_ORDER, &[], &[])?;
-        assert_eq!(rt; outcome.status, Status::NotBuilt, "{source:?}");
+    for (source, schedule, status) in sources {
+        let outcome = go(alloc, source, schedule, MESSAGE)?;
+        assert_eq!(rt; outcome.status, status, "{source:?}");
         assert_eq!(rt; outcome.image, None, "{source:?}");
+        assert!(rt; outcome.printed.is_empty(), "{source:?}");
     }
-    let schedules: [&[u8]; 3] = [b"d 0\nx\n", b"d 00", b" d 0"];
-    for schedule in schedules {
-        assert_eq!(rt;
-            go(alloc, ECHO, schedule, &[], &[])?.status,
-            Status::NotBuilt
-        );
-    }
-    let refused: [[&str; 6]; 6] = [
-        [
-            "run",
-            "e.redn",
-            "e.img",
-            "--schedule",
-            "s.txt",
-            "0=000000000000002a",
-        ],
-        [
-            "go",
-            "",
-            "e.img",
-            "--schedule",
-            "s.txt",
-            "0=000000000000002a",
-        ],
-        [
-            "go",
-            "e.redn",
-            "-e.img",
-            "--schedule",
-            "s.txt",
-            "0=000000000000002a",
-        ],
-        [
-            "go",
-            "e.redn",
-            "e.img",
-            "--fair",
-            "1000",
-            "0=000000000000002a",
-        ],
-        [
+    Ok(())
+}
+
+#[test]
+fn other_words_and_messages_are_not_built(rt: HostRuntime) -> Result<(), Fail> {
+    let alloc = rt.alloc();
+    let refused: [&[&str]; 9] = [
+        &[],
+        &["check"],
+        &["check", "-e.redn"],
+        &["check", "e.redn", "e.redn"],
+        &["run", "e.redn", "e.img", "--schedule", "s.txt", MESSAGE],
+        &["go", "", "e.img", "--schedule", "s.txt", MESSAGE],
+        &["go", "e.redn", "e.img", "--fair", "1000", MESSAGE],
+        &[
             "go",
             "e.redn",
             "e.img",
@@ -210,7 +289,7 @@ fn what_is_not_built_is_refused(rt: HostRuntime) -> Result<(), Fail> {
             "s.txt",
             "1=000000000000002a",
         ],
-        [
+        &[
             "go",
             "e.redn",
             "e.img",
@@ -223,33 +302,183 @@ fn what_is_not_built_is_refused(rt: HostRuntime) -> Result<(), Fail> {
         let mut store = MemStore::new(alloc, Vec::new(alloc));
         store.add("e.redn", ECHO)?;
         store.add("s.txt", IN_ORDER)?;
-        let outcome = with_words(alloc, &words, &mut store, &[])?;
+        let outcome = with_words(alloc, words, &mut store, &[])?;
         assert_eq!(rt; outcome.status, Status::NotBuilt, "{words:?}");
     }
     Ok(())
 }
 
 #[test]
-fn a_name_of_32_bytes_and_a_newline_are_accepted(rt: HostRuntime) -> Result<(), Fail> {
-    let source =
-        b"chain _ { arg abcdefghijklmnopqrstuvwxyz_01234; reply abcdefghijklmnopqrstuvwxyz_01234; }\n";
-    let outcome = go(rt.alloc(), source, IN_ORDER, &[], &[])?;
-    assert_eq!(rt; outcome.status, Status::Done);
+fn the_canonical_text_is_printed_again_unchanged(rt: HostRuntime) -> Result<(), Fail> {
+    let alloc = rt.alloc();
+    let source: &[u8] = b"chain c { arg a; arg b; # two tests\n if a ~ b { if a == b { reply 2; } \
+        else { reply 0x1; } } else { reply 00; } }";
+    let canonical: &[u8] = b"chain c { arg a ; arg b ; if a ~ b { if a == b { reply 2 ; } \
+        else { reply 1 ; } } else { reply 0 ; } }\n";
+    for text in [source, canonical] {
+        let outcome = check(alloc, text)?;
+        assert_eq!(rt; outcome.status, Status::Done);
+        assert_eq!(rt; outcome.printed.as_slice(), canonical);
+        assert_eq!(rt; outcome.image, None);
+    }
+    Ok(())
+}
+
+#[test]
+fn texts_without_a_tree_are_refused(rt: HostRuntime) -> Result<(), Fail> {
+    let alloc = rt.alloc();
+    let texts: [(&[u8], u64); 5] = [
+        (b"", 0),
+        (b"chain c { reply 1 }", 18),
+        (b"chain c { x = 18446744073709551616; }", 14),
+        (b"chain c { reply 1 1; }", 18),
+        (b"table t[8] ro;", 14),
+    ];
+    for (text, at) in texts {
+        let outcome = check(alloc, text)?;
+        assert_eq!(rt;
+            outcome.status,
+            Status::Text(TextFault::Byte { at }),
+            "{text:?}"
+        );
+        assert!(rt; outcome.printed.is_empty(), "{text:?}");
+    }
+    let mut deep = String::from_str(alloc, "chain c { ")?;
+    for _ in 0..65 {
+        deep.push_str("if 1 ~ 1 { ")?;
+    }
+    let outcome = check(alloc, deep.as_bytes())?;
+    assert_eq!(rt;
+        outcome.status,
+        Status::Text(TextFault::Nesting { at: 723 })
+    );
+    Ok(())
+}
+
+#[test]
+fn each_rule_is_refused_with_its_place(rt: HostRuntime) -> Result<(), Fail> {
+    let alloc = rt.alloc();
+    let table: [(&[u8], u8, u32, u64); 16] = [
+        (b"chain c { reply x; }", 1, 16, 0),
+        (b"chain c { var x; x = t[0]; reply x; }", 1, 21, 0),
+        (b"chain c { arg a; var a; reply a; }", 2, 21, 0),
+        (b"table t[8] ro; chain c { t[0] = 1; reply 1; }", 3, 25, 0),
+        (b"chain c { break; }", 4, 10, 0),
+        (b"chain c { }", 5, 10, 0),
+        (b"chain c { reply 1; reply 2; }", 6, 19, 0),
+        (b"chain c { loop { loop { break; } } }", 7, 10, 0),
+        (
+            b"table t[16] ro; chain c { var x; lookup x = t[x] key 1 probes 1; reply x; }",
+            8,
+            40,
+            0,
+        ),
+        (
+            b"chain c { arg a; arg b; arg c; arg d; arg e; arg f; arg g; arg h; arg i; reply a; }",
+            10,
+            70,
+            9,
+        ),
+        (b"table t[9] ro; chain c { reply 1; }", 12, 8, 9),
+        (b"table t[0] ro; chain c { reply 1; }", 12, 8, 0),
+        (b"table t[8] ro = { 1, 2 }; chain c { reply 1; }", 12, 21, 8),
+        (b"chain c { repeat 0 { break; } reply 1; }", 13, 17, 0),
+        (
+            b"table t[16] ro; chain c { var x; lookup x = t[0] key 1 probes 5; reply x; }",
+            13,
+            62,
+            5,
+        ),
+        (b"chain c { reply 1, 2, 3, 4, 5, 6, 7, 8, 9; }", 13, 40, 9),
+    ];
+    for (text, rule, at, seen) in table {
+        let outcome = check(alloc, text)?;
+        assert_eq!(rt;
+            outcome.status,
+            Status::Program { rule, at, seen },
+            "{text:?}"
+        );
+        assert!(rt; outcome.printed.is_empty(), "{text:?}");
+    }
+    Ok(())
+}
+
+/// A chain of so many moves and a reply.
+fn moves(alloc: Global, count: usize) -> Result<String, Memory> {
+    let mut text = String::from_str(alloc, "chain c { var x; ")?;
+    for _ in 0..count {
+        text.push_str("x = 1; ")?;
+    }
+    text.push_str("reply x; }")?;
+    Ok(text)
+}
+
+#[test]
+fn a_file_may_weigh_4096(rt: HostRuntime) -> Result<(), Fail> {
+    let alloc = rt.alloc();
+    let light = moves(alloc, 4095)?;
+    assert_eq!(rt; check(alloc, light.as_bytes())?.status, Status::Done);
+    let heavy = moves(alloc, 4096)?;
+    let status = Status::Program {
+        rule: 14,
+        at: 17 + 7 * 4096,
+        seen: 4097,
+    };
+    assert_eq!(rt; check(alloc, heavy.as_bytes())?.status, status);
+    Ok(())
+}
+
+#[test]
+fn a_source_above_its_limit_is_too_long(rt: HostRuntime) -> Result<(), Fail> {
+    let alloc = rt.alloc();
+    let text = vec![in alloc; b' '; 1_048_577]?;
+    let status = Status::Long {
+        seen: 1_048_577,
+        limit: 1_048_576,
+    };
+    assert_eq!(rt; check(alloc, &text)?.status, status);
+    assert_eq!(rt;
+        check(alloc, &text[1..])?.status,
+        Status::Text(TextFault::Byte { at: 1_048_576 })
+    );
+    assert_eq!(rt; go(alloc, &text, IN_ORDER, MESSAGE)?.status, status);
     Ok(())
 }
 
 #[test]
 fn each_status_has_its_code_and_its_line(rt: HostRuntime) -> Result<(), Fail> {
-    let table: [(Status, u8, &[u8]); 8] = [
+    let table: [(Status, u8, &[u8]); 11] = [
         (Status::Done, 0, b""),
         (Status::ReadFailed, 3, b"redn: read failed\n"),
         (Status::WriteFailed, 4, b"redn: write failed\n"),
-        (Status::Memory, 9, b"redn: out of memory\n"),
         (
-            Status::Step { line: 7 },
-            11,
-            b"redn: step not possible: line 7\n",
+            Status::Long {
+                seen: 1_048_577,
+                limit: 1_048_576,
+            },
+            5,
+            b"redn: file too long: limit 1048576\n",
         ),
+        (
+            Status::Text(TextFault::Byte { at: 18 }),
+            6,
+            b"redn: text refused: byte 18\n",
+        ),
+        (
+            Status::Text(TextFault::Nesting { at: 723 }),
+            6,
+            b"redn: text refused: nesting at byte 723\n",
+        ),
+        (
+            Status::Program {
+                rule: 14,
+                at: 28_689,
+                seen: 4097,
+            },
+            7,
+            b"redn: program refused: rule 14 at byte 28689\n",
+        ),
+        (Status::Memory, 9, b"redn: out of memory\n"),
         (
             Status::Step { line: u64::MAX },
             11,

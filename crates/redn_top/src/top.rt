@@ -1,23 +1,29 @@
+//! The commands.
+
 ghost use Rattle.std.specs.Prelude.{◌≡◌, ◌⊎◌, ◌≤◌, ℕ, List, Some, [], ◌∷◌, ◌++◌, length, map, string_bytes, IfOk, IfErr, OnOk};
 ghost use Rattle.std.specs.Option.{option_map};
+ghost use Rattle.redn_words.specs.declared.types.Receive.{Receive};
+ghost use Rattle.redn_syntax.specs.declared.tree.File.{File};
+ghost use Rattle.redn_syntax.specs.Canonical.{canonical_text};
+ghost use Rattle.redn_kernel.specs.declared.types.Program.{Program};
 ghost use Rattle.redn_outside.specs.Counts.{Rose};
 ghost use Rattle.redn_outside.specs.Files.{Files, with_file};
 ghost use Rattle.redn_image.specs.Spelling.{Spells};
 ghost use Rattle.redn_adapter.specs.Opening.{opened};
-ghost use Rattle.redn_top.specs.StatusText.{OnReadFailed, OnWriteFailed, OnMissing};
-ghost use Rattle.redn_top.specs.FirstImage.{first_image as first_image_of};
+ghost use Rattle.redn_top.specs.StatusText.{code_of, OnReadFailed, OnWriteFailed, OnMissing, OnLong};
 ghost use Rattle.redn_sched.specs.declared.text.Numbered.{Numbered};
 ghost use Rattle.redn_top.specs.declared.status.Status.{Status};
 ghost use Rattle.redn_top.specs.Words.{Go, go_view, IsGo};
-ghost use Rattle.redn_top.specs.Answers.{Answers, AnswersGo, CanRun, IsRefused, IsRun, IfSpoken, Grew, Stayed, status_of};
-ghost use Rattle.redn_top.specs.Refusals.{WriteRefused, OpenRefused};
+ghost use Rattle.redn_top.specs.Answers.{Answers, AnswersCheck, AnswersGo, CanRun, Checks, CheckRefused, Demands, IsRun, IsRunOrWant, IfSpoken, Grew, Stayed, status_of};
+ghost use Rattle.redn_top.specs.Refusals.{WriteRefused, OnlyMemory};
 
-use crate::first_image::first_image;
-use crate::reading::{Job, prepare};
+use crate::reading::{FILE_LIMIT, Job, prepare, read_file};
 use crate::run::{put, run};
+use crate::source::checked_text;
 use crate::status::Status;
-use crate::words::{GoWords, go_of};
+use crate::words::{GoWords, check_of, go_of};
 use redn_adapter::{Adapter, OpenFault, open};
+use redn_compile::compile;
 use redn_image::{Image, write_image};
 use redn_outside::{Sink, Store, WriteFault};
 use redn_words::{Memory, Messages};
@@ -52,13 +58,11 @@ fn write_out<S: Store>(
     }
 }
 
-/// Opens the image of the first form with its message.
-#[tactic(auto, unfolding(crate::specs::FirstImage::first_image))]
-fn open_first(alloc: Global, image: Image, message: Vec<u8>) -> Result<Adapter, Status>
-    requires first { image ≡ first_image_of }
-    requires fits { length message.items ≡ 8 }
+/// Opens an image of one chain with its message.
+fn open_with(alloc: Global, image: Image, message: Vec<u8>) -> Result<Adapter, Status>
+    requires { map (λ (r : Receive). r.len) image.receives ≡ length message.items ∷ [] }
     ensures opened { IfOk result (λ a. a ≡ opened image (Some message.items ∷ [])) }
-    ensures refused { IfErr result OpenRefused }
+    ensures refused { IfErr result OnlyMemory }
 {
     let list = match vec![in alloc; Some(message)] {
         Ok(list) => list,
@@ -86,6 +90,8 @@ fn run_go<S: Store, K: Sink>(
         (Stayed (S.told store.old) (S.told store.new) (K.told out.old) (K.told out.new)) }
     ensures missing { OnMissing (status_of result)
         (Rose (S.missing_answers store.old) (S.missing_answers store.new)) }
+    ensures long { OnLong (status_of result)
+        (Rose (S.long_answers store.old) (S.long_answers store.new)) }
     ensures write_failed { OnWriteFailed (status_of result)
         (Rose (S.write_faults store.old) (S.write_faults store.new)
         ⊎ Rose (K.faults out.old) (K.faults out.new)) }
@@ -95,15 +101,60 @@ fn run_go<S: Store, K: Sink>(
     ensures writes { OnWriteFailed (status_of result)
         (S.is_reliable store.old → K.is_reliable out.old → ⊥) }
 {
-    let Job { message, lines } = prepare(alloc, go, store)?;
-    let image = match first_image(alloc) {
+    let Job {
+        program,
+        message,
+        lines,
+    } = prepare(alloc, go, store)?;
+    let image = match compile(alloc, &program) {
         Ok(image) => image,
         Err(Memory) => return Err(Status::Memory),
     };
     write_out(alloc, go.image, &image, store)?;
-    let mut adapter = open_first(alloc, image, message)?;
+    let mut adapter = open_with(alloc, image, message)?;
     run(&mut adapter, &lines, out)?;
     put(out, b"end schedule\n")
+}
+
+/// Runs the command `check`.
+fn run_check<S: Store, K: Sink>(
+    alloc: Global,
+    file: &str,
+    store: &mut S,
+    out: &mut K,
+) -> Result<(), Status>
+    ensures answers { IfSpoken (status_of result) (Grew (S.told store.old) (S.told store.new)
+        (K.told out.old) (K.told out.new) (AnswersCheck file.now (S.told store.old) (status_of result))) }
+    ensures read_failed { OnReadFailed (status_of result)
+        (Rose (S.read_faults store.old) (S.read_faults store.new)) }
+    ensures read_nothing { OnReadFailed (status_of result)
+        (Stayed (S.told store.old) (S.told store.new) (K.told out.old) (K.told out.new)) }
+    ensures missing { OnMissing (status_of result)
+        (Rose (S.missing_answers store.old) (S.missing_answers store.new)) }
+    ensures long { OnLong (status_of result)
+        (Rose (S.long_answers store.old) (S.long_answers store.new)) }
+    ensures write_failed { OnWriteFailed (status_of result)
+        (Rose (S.write_faults store.old) (S.write_faults store.new)
+        ⊎ Rose (K.faults out.old) (K.faults out.new)) }
+    ensures reliable { S.is_reliable store.old → S.is_reliable store.new }
+    ensures reliable_sink { K.is_reliable out.old → K.is_reliable out.new }
+    ensures reads { OnReadFailed (status_of result) (¬ S.is_reliable store.old) }
+    ensures writes { OnWriteFailed (status_of result)
+        (S.is_reliable store.old → K.is_reliable out.old → ⊥) }
+{
+    let source = read_file(alloc, store, file, FILE_LIMIT)?;
+    let text = checked_text(alloc, &source)?;
+    put(out, &text)
+}
+
+/// The status with which a command ends.
+fn finished(ended: Result<(), Status>) -> Status
+    ensures { result ≡ status_of ended }
+{
+    match ended {
+        Ok(()) => Status::Done,
+        Err(status) => status,
+    }
 }
 
 /// Runs a command by its words, over a store of files and a sink for what it prints.
@@ -115,17 +166,32 @@ pub fn redn<S: Store, K: Sink>(
 ) -> Status
     ensures answers { IfSpoken result (Grew (S.told store.old) (S.told store.new)
         (K.told out.old) (K.told out.new) (Answers (map string_bytes words.now.items) (S.told store.old) result)) }
-    ensures refuses { (files : Files) → S.told store.old ≡ Some files → (s : Status)
-        → IsRefused (map string_bytes words.now.items) files s → IfSpoken result (result ≡ s) }
+
+    // Where the store tells what it holds, and no call failed.
+    ensures demands { (files : Files) → S.told store.old ≡ Some files → (s : Status)
+        → Demands (map string_bytes words.now.items) files s
+        → IfSpoken s (IfSpoken result (code_of result ≡ code_of s)) }
     ensures runs { (files : Files) → S.told store.old ≡ Some files → (g : Go)
-        → IsGo (map string_bytes words.now.items) g → (message : List ℕ) → (lines : List Numbered)
-        → CanRun (Some files) g message lines → IfSpoken result (IsRun result) }
+        → IsGo (map string_bytes words.now.items) g
+        → (p : Program) (message : List ℕ) (lines : List Numbered)
+        → CanRun (Some files) g p message lines → IfSpoken result (IsRun result) }
+    ensures completes { (files : Files) → S.told store.old ≡ Some files → (g : Go)
+        → IsGo (map string_bytes words.now.items) g
+        → (p : Program) (message : List ℕ) (lines : List Numbered)
+        → CanRun (Some files) g p message lines
+        → ¬ Rose (S.read_faults store.old) (S.read_faults store.new)
+        → ¬ Rose (S.write_faults store.old) (S.write_faults store.new)
+        → ¬ Rose (K.faults out.old) (K.faults out.new) → IsRunOrWant result }
+
+    // Failed calls, and whether they are told.
     ensures read_failed { OnReadFailed result
         (Rose (S.read_faults store.old) (S.read_faults store.new)) }
     ensures read_nothing { OnReadFailed result
         (Stayed (S.told store.old) (S.told store.new) (K.told out.old) (K.told out.new)) }
     ensures missing { OnMissing result
         (Rose (S.missing_answers store.old) (S.missing_answers store.new)) }
+    ensures long { OnLong result
+        (Rose (S.long_answers store.old) (S.long_answers store.new)) }
     ensures write_failed { OnWriteFailed result
         (Rose (S.write_faults store.old) (S.write_faults store.new)
         ⊎ Rose (K.faults out.old) (K.faults out.new)) }
@@ -135,11 +201,9 @@ pub fn redn<S: Store, K: Sink>(
     ensures writes { OnWriteFailed result
         (S.is_reliable store.old → K.is_reliable out.old → ⊥) }
 {
-    let Some(go) = go_of(words) else {
-        return Status::NotBuilt;
-    };
-    match run_go(alloc, &go, store, out) {
-        Ok(()) => Status::Done,
-        Err(status) => status,
+    match (go_of(words), check_of(words)) {
+        (Some(go), _) => finished(run_go(alloc, &go, store, out)),
+        (None, Some(file)) => finished(run_check(alloc, file, store, out)),
+        (None, None) => Status::NotBuilt,
     }
 }

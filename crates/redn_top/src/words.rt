@@ -1,5 +1,5 @@
-ghost use Rattle.std.specs.Prelude.{◌≡◌, ◌↔◌, IsTrue, IfSome, IfNone, map, string_bytes};
-ghost use Rattle.redn_top.specs.Words.{Go, IsGo, IsName, go_view};
+ghost use Rattle.std.specs.Prelude.{◌≡◌, ◌↔◌, ℕ, List, IsTrue, IfSome, IfNone, map, string_bytes};
+ghost use Rattle.redn_top.specs.Words.{Go, IsGo, IsCheck, IsName, go_view};
 
 /// The words of `go FILE IMAGE --schedule SCHEDULE 0=HEX`.
 #[derive(Clone, Copy)]
@@ -47,4 +47,19 @@ pub fn go_of(words: &Vec<String>) -> Option<GoWords<'_>>
         schedule,
         hex,
     })
+}
+
+/// The name of the file in the words of `check FILE`, or none where they aren't.
+pub fn check_of(words: &Vec<String>) -> Option<&str>
+    ensures found { IfSome result (λ file. IsCheck (map string_bytes words.now.items) file.now) }
+    ensures no_other { IfNone result ((file : List ℕ) → ¬ IsCheck (map string_bytes words.now.items) file) }
+{
+    let [verb, file] = words.as_slice() else {
+        return None;
+    };
+    let file = file.as_str();
+    if verb.as_str() != "check" || !is_name(file) {
+        return None;
+    }
+    Some(file)
 }
