@@ -1,5 +1,5 @@
 -- What holds where no rule fails.
-use Rattle.std.proofs.Common.{◌≡◌, ℕ, ◌+◌, ◌<◌, ◌≤◌, Bool, true, false, ◌==◌, eqb, List, [], ◌∷◌, ◌++◌, length, map, take, drop, get_or, Option, Some, None, slice_get, refl, sym, ap, ◌∙◌, arith, ◌⊎◌, inl, inr}
+use Rattle.std.proofs.Common.{◌≡◌, ℕ, ◌+◌, ◌<◌, ◌≤◌, false, ◌==◌, List, [], ◌∷◌, ◌++◌, length, map, take, drop, get_or, refl, sym, ap, ◌∙◌, arith, ◌⊎◌, inl, inr}
 use Rattle.std.specs.List.{flat_map}
 use Rattle.std.specs.Option.{option_map_or}
 use Rattle.std.proofs.lemmas.Bool.{cases_lt}
@@ -14,9 +14,9 @@ use Rattle.redn_syntax.specs.declared.tree.File.{File}
 use Rattle.redn_syntax.specs.declared.tree.Stmt.{Stmt}
 use Rattle.redn_check.specs.declared.fault.Fault.{Fault}
 use Rattle.redn_check.specs.Faults.{fault, when}
-use Rattle.redn_check.specs.Statements.{with_earlier, layer_of, each_of}
+use Rattle.redn_check.specs.Statements.{with_earlier, each_of}
 use Rattle.redn_check.specs.Names.{table_names, chain_names, variables}
-use Rattle.redn_check.specs.Rules.{twice, one_too_many, undeclared, variables_in, tables_in, read_only, overwritten, number_faults, statement_faults, control_faults, chain_faults, bad_length, bad_item, table_faults, too_heavy, weights, faults, Accepts}
+use Rattle.redn_check.specs.Rules.{twice, one_too_many, number_faults, statement_faults, control_faults, chain_faults, bad_length, bad_item, table_faults, too_heavy, weights, Accepts}
 use Rattle.redn_check.proofs.Nothing.{nil_left, nil_right, when_none}
 use Rattle.redn_check.proofs.Behind.{with_earlier-append, behind_one, behind_all, split_at}
 

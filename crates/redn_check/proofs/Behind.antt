@@ -1,5 +1,5 @@
 -- Places behind others, items behind others, and lengths that sum up.
-use Rattle.std.proofs.Common.{◌≡◌, ℕ, zero, suc, ◌+◌, ◌-◌, ◌^◌, ◌%◌, ◌<◌, ◌≤◌, min, Bool, true, false, not, ◌&&◌, ◌||◌, ◌==◌, cond, eqb, ltb, leb, List, [], ◌∷◌, ◌++◌, length, map, take, drop, get_or, Option, Some, None, slice_get, fold, refl, sym, ap, ◌∙◌, subst, arith}
+use Rattle.std.proofs.Common.{◌≡◌, ℕ, zero, suc, ◌+◌, ◌-◌, ◌<◌, ◌≤◌, min, true, false, List, [], ◌∷◌, ◌++◌, length, map, take, drop, get_or, Some, None, slice_get, refl, sym, ap, ◌∙◌, arith}
 use Rattle.std.specs.List.{flat_map, sum_by}
 use Rattle.std.proofs.lemmas.List.{append-nil, map-append, take_more, drop_more, take-append-drop, take_all, get_or_default, length-map}
 use Rattle.std.proofs.lemmas.List.Concat.{flat_map-append}
@@ -12,9 +12,9 @@ use Rattle.redn_syntax.specs.declared.tree.Name.{Name}
 use Rattle.redn_syntax.specs.declared.tree.VarDecl.{VarDecl}
 use Rattle.redn_check.specs.Names.{variable_names}
 use Rattle.redn_check.specs.declared.fault.Fault.{Fault}
-use Rattle.redn_check.specs.Faults.{fault, when, earlier, first_of}
+use Rattle.redn_check.specs.Faults.{fault, when, first_of}
 use Rattle.redn_check.specs.Statements.{with_earlier}
-use Rattle.redn_check.specs.Rules.{offset_behind, end_of, is_misplaced, misplaced, place_of_item, passes}
+use Rattle.redn_check.specs.Rules.{offset_behind, end_of, is_misplaced, misplaced, place_of_item}
 use Rattle.redn_check.proofs.Firsts.{with_earlier_push}
 use Rattle.redn_check.proofs.Nothing.{nil_left, nil_right, when_none}
 

@@ -3,7 +3,6 @@ use Rattle.std.proofs.Common.{◌≡◌, ℕ, ◌+◌, ◌<◌, Bool, List, [], 
 use Rattle.std.specs.List.{flat_map}
 use Rattle.std.proofs.lemmas.List.{append-nil, map-append, take_more}
 use Rattle.std.proofs.lemmas.List.Concat.{flat_map-append}
-use Rattle.redn_syntax.specs.declared.tree.Num.{Num}
 use Rattle.redn_syntax.specs.declared.tree.Operand.{Operand}
 use Rattle.redn_syntax.specs.declared.tree.Stmt.{Stmt}
 use Rattle.redn_syntax.specs.declared.tree.StmtKind.{StmtKind, roll-StmtKind, roll-out-StmtKind}

@@ -1,9 +1,8 @@
 -- How a statement may be left, whether it is idle and what it weighs is the same with numbers in place of names.
-use Rattle.std.proofs.Common.{◌≡◌, ℕ, ◌+◌, Bool, true, false, ◌&&◌, ◌||◌, List, [], ◌∷◌, ◌++◌, map, sum, refl, sym, ap, ◌∙◌, arith}
+use Rattle.std.proofs.Common.{◌≡◌, ℕ, ◌+◌, false, ◌&&◌, ◌||◌, List, [], ◌∷◌, ◌++◌, map, sum, refl, sym, ap, ◌∙◌, arith}
 use Rattle.std.specs.Prelude.{min}
-use Rattle.std.specs.List.{list_all, sum_by}
+use Rattle.std.specs.List.{sum_by}
 use Rattle.std.proofs.lemmas.List.{append-nil, map-append}
-use Rattle.std.proofs.lemmas.List.Folds.{list_all-map}
 use Rattle.std.proofs.lemmas.List.Sums.{sum_by-cons, sum_by-append}
 use Rattle.redn_syntax.specs.declared.tree.Name.{Name}
 use Rattle.redn_syntax.specs.declared.tree.Stmt.{Stmt}
@@ -13,8 +12,8 @@ use Rattle.redn_kernel.specs.declared.types.Kernel.{Kernel}
 use Rattle.redn_kernel.specs.Program as p
 use Rattle.redn_kernel.specs.Program.{Exits, exits, all_fall, some_break, only_last_stays, Idles, idles, break_idly}
 use Rattle.redn_kernel.proofs.Cases.{exits_of_move, exits_of_add, exits_of_load, exits_of_store, exits_of_if, exits_of_loop, exits_of_repeat, exits_of_break, exits_of_lookup, exits_of_walk, exits_of_reply, idles_of_move, idles_of_add, idles_of_load, idles_of_store, idles_of_if, idles_of_loop, idles_of_repeat, idles_of_break, idles_of_lookup, idles_of_walk, idles_of_reply, weight_of_move, weight_of_add, weight_of_load, weight_of_store, weight_of_if, weight_of_loop, weight_of_repeat, weight_of_break, weight_of_lookup, weight_of_walk, weight_of_reply}
-use Rattle.redn_check.specs.Statements.{layer_of, inner, exits_by, exits_of, idles_by, idles_of, falls_through, is_idle_body, own_weight, with_inner, each_of}
-use Rattle.redn_check.specs.Rules.{Weight, weight_at, weights_in, weight_of_all}
+use Rattle.redn_check.specs.Statements.{layer_of, inner, exits_by, exits_of, idles_by, idles_of, is_idle_body, own_weight, with_inner, each_of}
+use Rattle.redn_check.specs.Rules.{Weight, weight_at, weights_in}
 use Rattle.redn_check.specs.Numbering.{kernel_of}
 use Rattle.redn_check.proofs.Inner.{Each, Each-left, Each-right, by_inner}
 use Rattle.redn_check.proofs.Cases.{exits_out, idles_out}

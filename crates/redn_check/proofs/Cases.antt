@@ -1,10 +1,9 @@
 -- How a statement of each kind may be left, whether it is idle, where its loose breaks stand, and what stands in it.
-use Rattle.std.proofs.Common.{◌≡◌, ℕ, Bool, true, false, ◌||◌, List, [], ◌∷◌, ◌++◌, map, refl, sym, ap, ◌∙◌}
-use Rattle.std.specs.List.{flat_map}
+use Rattle.std.proofs.Common.{◌≡◌, ℕ, List, ap, ◌∙◌}
 use Rattle.redn_syntax.specs.declared.tree.Stmt.{Stmt, fold_out-Stmt}
-use Rattle.redn_syntax.specs.declared.tree.StmtKind.{StmtKind, out-StmtKind, map-StmtKind, fold-StmtKind, fold_out-StmtKind}
+use Rattle.redn_syntax.specs.declared.tree.StmtKind.{StmtKind, map-StmtKind, fold-StmtKind, fold_out-StmtKind}
 use Rattle.redn_syntax.specs.declared.tree.StmtKind.TheOpen.{StmtKind-F}
-use Rattle.redn_kernel.specs.Program.{Exits, exits, Idles, idles}
+use Rattle.redn_kernel.specs.Program.{Exits, Idles}
 use Rattle.redn_check.specs.Statements.{layer_of, exits_by, exits_of, idles_by, idles_of, breaks_by, breaks_of}
 
 pub exits_out : (s : Stmt) (layer : StmtKind-F StmtKind Stmt) → layer_of s ≡ layer → exits_of s ≡ exits_by (map-StmtKind StmtKind Stmt Exits Exits (fold-StmtKind Exits Exits exits_by (λ x. x.kind)) exits_of layer)

@@ -1,11 +1,11 @@
 -- The fault that is told, as a place in the list of faults.
-use Rattle.std.proofs.Common.{◌≡◌, ◌≢◌, ℕ, ◌+◌, ◌<◌, Bool, true, false, cond, ◌&&◌, ◌||◌, eqb, ltb, if◌then◌else◌, List, [], ◌∷◌, ◌++◌, Option, Some, None, Result, Ok, Err, OnOk, refl, sym, ap, ◌∙◌, subst, arith}
+use Rattle.std.proofs.Common.{◌≡◌, Bool, true, false, if◌then◌else◌, List, [], ◌∷◌, ◌++◌, Option, Some, None, Result, Ok, Err, OnOk, refl, ap, ◌∙◌, subst, arith}
 use Rattle.std.specs.Prelude.{All}
 use Rattle.std.proofs.lemmas.Bool.Decides.{nat_tests}
 use Rattle.std.proofs.lemmas.List.Elements.{All-nil, All-cons, All-head, All-tail, All-append, All-weaker, All-same}
 use Rattle.redn_check.specs.declared.fault.Fault.{Fault}
-use Rattle.redn_check.specs.Faults.{comes_before, earlier_of, earlier, first_of, IsFirst}
-use Rattle.redn_check.proofs.Firsts.{first_of-append, earlier_none}
+use Rattle.redn_check.specs.Faults.{comes_before, earlier, first_of, IsFirst}
+use Rattle.redn_check.proofs.Firsts.{first_of-append}
 
 -- what is before an earlier one is before a later one
 after_earlier : (x f g : Fault) → comes_before x g ≡ true → comes_before x f ≡ false → comes_before g f ≡ false

@@ -1,13 +1,12 @@
 -- The fault that is told, of lists put together.
-use Rattle.std.proofs.Common.{◌≡◌, ℕ, ◌+◌, ◌<◌, Bool, true, false, cond, ◌&&◌, ◌||◌, eqb, ltb, List, [], ◌∷◌, ◌++◌, length, map, take, get_or, Option, Some, None, refl, sym, ap, ◌∙◌, subst, arith, rules, inl, inr, ◌⊎◌}
-use Rattle.std.specs.Prelude.{All}
+use Rattle.std.proofs.Common.{◌≡◌, ℕ, ◌+◌, ◌<◌, List, [], ◌∷◌, ◌++◌, length, map, take, get_or, Option, Some, None, refl, sym, ap, ◌∙◌, arith}
 use Rattle.std.specs.List.{flat_map}
 use Rattle.std.proofs.lemmas.List.{append-nil, map-append, take_more}
 use Rattle.std.proofs.lemmas.List.Concat.{flat_map-append}
 use Rattle.std.proofs.lemmas.Bool.Decides.{nat_tests}
 use Rattle.redn_check.specs.declared.fault.Fault.{Fault}
 use Rattle.redn_check.specs.Statements.{with_earlier}
-use Rattle.redn_check.specs.Faults.{comes_before, earlier_of, earlier, first_of, IsFirst}
+use Rattle.redn_check.specs.Faults.{earlier_of, earlier, first_of}
 
 earlier_of_assoc : (a b c : Fault) → earlier_of (earlier_of a b) c ≡ earlier_of a (earlier_of b c)
 earlier_of_assoc a b c = grind (arith, nat_tests)

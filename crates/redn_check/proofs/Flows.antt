@@ -1,8 +1,7 @@
 -- What the walk over statements finds out, by what a statement is, and for one more statement of a list.
-use Rattle.std.proofs.Common.{◌≡◌, ℕ, Bool, true, false, not, ◌&&◌, ◌||◌, List, [], ◌∷◌, ◌++◌, map, Option, Some, None, refl, sym, ap, ◌∙◌}
-use Rattle.std.specs.List.{flat_map, list_all, list_any}
+use Rattle.std.proofs.Common.{◌≡◌, Bool, true, false, not, ◌&&◌, ◌||◌, List, [], ◌∷◌, ◌++◌, map, Option, None, refl, sym, ap, ◌∙◌}
+use Rattle.std.specs.List.{flat_map, list_all}
 use Rattle.std.proofs.lemmas.List.{append-nil, map-append}
-use Rattle.std.proofs.lemmas.List.Concat.{flat_map-append}
 use Rattle.std.proofs.lemmas.List.Folds.{list_all-append, list_any-append, list_all-map}
 use Rattle.redn_syntax.specs.declared.tree.Num.{Num}
 use Rattle.redn_syntax.specs.declared.tree.Operand.{Operand}
@@ -15,11 +14,11 @@ use Rattle.redn_check.specs.declared.fault.Fault.{Fault}
 use Rattle.redn_check.specs.declared.flow.StatementFlow.{StatementFlow}
 use Rattle.redn_check.specs.declared.flow.BodyFlow.{BodyFlow}
 use Rattle.redn_check.specs.Faults.{fault, when, earlier, first_of}
-use Rattle.redn_check.specs.Statements.{layer_of, blocks, inner, exits_by, exits_of, idles_by, idles_of, falls_through, is_idle_body, each_of, with_inner, with_earlier}
+use Rattle.redn_check.specs.Statements.{layer_of, blocks, inner, exits_by, exits_of, idles_by, idles_of, falls_through, is_idle_body, with_inner}
 use Rattle.redn_check.specs.Rules.{unreached, idle_loop, flow_faults}
 use Rattle.redn_check.specs.Flow.{statement_flow, body_flow}
 use Rattle.redn_check.proofs.Cases.{exits_out, idles_out}
-use Rattle.redn_check.proofs.Firsts.{first_of-append, first_push, first_push_earlier, earlier_none, earlier_assoc, stepped}
+use Rattle.redn_check.proofs.Firsts.{first_of-append, first_push_earlier, earlier_assoc}
 use Rattle.redn_check.proofs.Gathered.{in_body, in_body-append, found_if, found_loop, found_repeat, found_plain}
 
 abbrev pub flow : Bool → Bool → Bool → Bool → Option Fault → StatementFlow

@@ -1,10 +1,10 @@
-use Rattle.std.proofs.Common.{◌≡◌, ℕ, List, [], ◌∷◌, ◌++◌, map, refl, sym, ap, ◌∙◌, subst}
+use Rattle.std.proofs.Common.{◌≡◌, List, [], ◌∷◌, ◌++◌, map, refl, sym, ap, ◌∙◌, subst}
 use Rattle.std.specs.List.{flat_map}
 use Rattle.std.proofs.lemmas.List.Concat.{flat_map-append}
-use Rattle.redn_syntax.specs.declared.tree.Stmt.{Stmt, fold-Stmt, fold_out-Stmt, ind-Stmt, map-Stmt, out-Stmt, roll-Stmt, every-Stmt, every_made-Stmt, Stmt-F}
-use Rattle.redn_syntax.specs.declared.tree.StmtKind.{StmtKind, roll-StmtKind, out-StmtKind, map-StmtKind, fold-StmtKind, fold_out-StmtKind, ind-StmtKind, every-StmtKind, rec-StmtKind, every_made-StmtKind, out-roll-StmtKind, roll-out-StmtKind}
+use Rattle.redn_syntax.specs.declared.tree.Stmt.{Stmt, fold_out-Stmt, ind-Stmt, roll-Stmt}
+use Rattle.redn_syntax.specs.declared.tree.StmtKind.{StmtKind, roll-StmtKind, out-StmtKind, map-StmtKind, fold-StmtKind, fold_out-StmtKind, out-roll-StmtKind, roll-out-StmtKind}
 use Rattle.redn_syntax.specs.declared.tree.StmtKind.TheOpen.{StmtKind-F}
-use Rattle.redn_check.specs.Statements.{blocks, inner, unfold_by, with_statement, unfolded, with_inner, each_of}
+use Rattle.redn_check.specs.Statements.{inner, unfold_by, with_statement, unfolded, with_inner, each_of}
 
 -- a fact of each of a list
 abbrev pub Each : {X : Type 0} → (X → Type 0) → List X → Type 0

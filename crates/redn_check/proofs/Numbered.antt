@@ -1,5 +1,5 @@
 -- The program's statement of each statement, and where no number is out of its range.
-use Rattle.std.proofs.Common.{◌≡◌, ℕ, ◌+◌, ◌<◌, ◌≤◌, Bool, true, false, ◌||◌, ltb, List, [], ◌∷◌, ◌++◌, length, map, take, drop, get_or, refl, sym, ap, ◌∙◌, arith}
+use Rattle.std.proofs.Common.{◌≡◌, ℕ, ◌+◌, ◌<◌, ◌≤◌, Bool, false, ◌||◌, ltb, List, [], ◌∷◌, length, map, take, drop, get_or, refl, sym, ap, ◌∙◌, arith}
 use Rattle.std.specs.List.{flat_map}
 use Rattle.std.proofs.lemmas.Bool.Decides.{nat_tests}
 use Rattle.std.proofs.lemmas.List.Concat.{flat_map-append}
@@ -12,7 +12,7 @@ use Rattle.redn_syntax.specs.declared.tree.StmtKind.TheOpen.{StmtKind-F}
 use Rattle.redn_kernel.specs.declared.types.Kernel.{Kernel}
 use Rattle.redn_kernel.specs.declared.types.Kernel.TheVariants as k
 use Rattle.redn_check.specs.declared.fault.Fault.{Fault}
-use Rattle.redn_check.specs.Faults.{fault, when}
+use Rattle.redn_check.specs.Faults.{fault}
 use Rattle.redn_check.specs.Statements.{layer_of, with_inner, inner, each_of}
 use Rattle.redn_check.specs.Rules.{outside, out_of_range, number_faults}
 use Rattle.redn_check.specs.Numbering.{number_of, word_of, kernel_by, kernel_of}

@@ -1,6 +1,6 @@
 -- Lists whose statements are reached, and breaks that stand in loops.
 use Rattle.std.proofs.Common.{◌≡◌, ℕ, Bool, true, false, not, ◌&&◌, ◌||◌, List, [], ◌∷◌, ◌++◌, map, refl, sym, ap, ◌∙◌}
-use Rattle.std.specs.List.{flat_map, list_all, list_any}
+use Rattle.std.specs.List.{flat_map}
 use Rattle.std.proofs.lemmas.Bool.{and_parts}
 use Rattle.redn_syntax.specs.declared.tree.Name.{Name}
 use Rattle.redn_syntax.specs.declared.tree.Stmt.{Stmt}
@@ -10,7 +10,7 @@ use Rattle.redn_kernel.specs.Program as p
 use Rattle.redn_kernel.specs.Program.{Exits, exits, all_fall, some_break, only_last_stays}
 use Rattle.redn_check.specs.declared.fault.Fault.{Fault}
 use Rattle.redn_check.specs.Faults.{fault, when}
-use Rattle.redn_check.specs.Statements.{with_earlier, layer_of, inner, exits_by, exits_of, breaks_by, breaks_of, falls_through}
+use Rattle.redn_check.specs.Statements.{with_earlier, layer_of, inner, exits_by, exits_of, breaks_of, falls_through}
 use Rattle.redn_check.specs.Rules.{unreached, loose_breaks}
 use Rattle.redn_check.specs.Numbering.{kernel_of}
 use Rattle.redn_check.proofs.Nothing.{nil_left, nil_right, when_none}

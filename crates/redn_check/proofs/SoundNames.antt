@@ -1,5 +1,5 @@
 -- The numbers of names that are declared.
-use Rattle.std.proofs.Common.{◌≡◌, ◌≢◌, ℕ, ◌+◌, ◌<◌, ◌≤◌, Bool, true, false, not, ◌||◌, List, [], ◌∷◌, ◌++◌, length, map, get_or, Option, Some, None, is_some, slice_get, position, unwrap_or, refl, sym, ap, ◌∙◌, subst, arith}
+use Rattle.std.proofs.Common.{◌≡◌, ◌≢◌, ℕ, ◌<◌, Bool, true, false, not, ◌||◌, List, [], ◌∷◌, ◌++◌, length, map, get_or, Option, Some, None, is_some, slice_get, unwrap_or, refl, sym, ap, ◌∙◌, arith}
 use Rattle.std.specs.Prelude.{All}
 use Rattle.std.specs.List.{flat_map, list_any}
 use Rattle.std.specs.Str.{bytes_eq}
@@ -16,8 +16,7 @@ use Rattle.redn_syntax.specs.declared.tree.Name.{Name}
 use Rattle.redn_syntax.specs.declared.tree.Operand.{Operand}
 use Rattle.redn_syntax.specs.declared.tree.Operand.TheVariants as operand
 use Rattle.redn_syntax.specs.declared.tree.Table.{Table}
-use Rattle.redn_kernel.specs.declared.types.Word.{Word}
-use Rattle.redn_kernel.specs.declared.types.Word.TheVariants.{Var, Num}
+use Rattle.redn_kernel.specs.declared.types.Word.TheVariants.{Var}
 use Rattle.redn_kernel.specs.Program.{IsNamed, is_writable}
 use Rattle.redn_check.specs.Faults.{fault, when}
 use Rattle.redn_check.specs.Names.{place_of, declares, table_names, table_of, named}

@@ -1,5 +1,5 @@
 -- The program of an accepted file is sound.
-use Rattle.std.proofs.Common.{◌≡◌, ℕ, zero, suc, ◌+◌, ◌%◌, ◌<◌, ◌≤◌, Bool, true, false, not, ◌&&◌, ◌||◌, ◌==◌, eqb, ltb, leb, List, [], ◌∷◌, ◌++◌, length, map, take, replicate, fold, get_or, None, Result, Ok, Err, IfOk, refl, sym, ap, ◌∙◌, subst, arith}
+use Rattle.std.proofs.Common.{◌≡◌, ℕ, zero, suc, ◌+◌, ◌%◌, ◌<◌, ◌≤◌, Bool, false, not, ◌||◌, ◌==◌, List, [], ◌∷◌, ◌++◌, length, map, take, replicate, fold, get_or, None, Result, Ok, Err, IfOk, refl, sym, ap, ◌∙◌, subst, arith}
 use Rattle.std.specs.Prelude.{All}
 use Rattle.std.specs.List.{flat_map, sum_by}
 use Rattle.std.proofs.lemmas.Bool.{or_parts}
@@ -17,16 +17,14 @@ use Rattle.redn_syntax.specs.declared.tree.Table.{Table}
 use Rattle.redn_syntax.specs.declared.tree.Chain.{Chain}
 use Rattle.redn_syntax.specs.declared.tree.File.{File}
 use Rattle.redn_syntax.specs.Grammar.{IsWritable}
-use Rattle.redn_kernel.specs.declared.types.Kernel.{Kernel, every-Kernel}
+use Rattle.redn_kernel.specs.declared.types.Kernel.{every-Kernel}
 use Rattle.redn_kernel.specs.declared.types.TableInit.{TableInit}
-use Rattle.redn_kernel.specs.declared.types.ChainInit.{ChainInit}
 use Rattle.redn_kernel.specs.declared.types.Program.{Program}
 use Rattle.redn_kernel.specs.Program.{IsSound, IsSoundChain, IsSoundTable, IsSoundStatement, all_fall, chain_weight}
-use Rattle.redn_check.specs.declared.fault.Fault.{Fault}
 use Rattle.redn_check.specs.Faults.{fault, when}
 use Rattle.redn_check.specs.Names.{table_names, variables, variable_names}
-use Rattle.redn_check.specs.Statements.{with_earlier, each_of, falls_through}
-use Rattle.redn_check.specs.Rules.{passes, lengths, bad_length, bad_item, misplaced, offset_behind, end_of, table_faults, chain_faults, loose_breaks, open_end, unreached, flow_faults, control_faults, Weight, weight_at, weights, weights_in, weight_of_all, too_heavy, Accepts}
+use Rattle.redn_check.specs.Statements.{with_earlier, each_of}
+use Rattle.redn_check.specs.Rules.{passes, lengths, bad_item, offset_behind, end_of, table_faults, chain_faults, loose_breaks, open_end, unreached, flow_faults, control_faults, Weight, weight_at, weights, weight_of_all, too_heavy, Accepts}
 use Rattle.redn_check.specs.Numbering.{kernel_of, placed, written, table_bytes, table_init, first_value, first_values, chain_init, program_of}
 use Rattle.redn_check.proofs.Nothing.{nil_left, nil_right, when_none}
 use Rattle.redn_check.proofs.Inner.{Each}

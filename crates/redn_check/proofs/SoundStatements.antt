@@ -1,33 +1,30 @@
 -- Statements in which no rule fails are sound with numbers in place of names.
-use Rattle.std.proofs.Common.{◌≡◌, ℕ, ◌<◌, ◌≤◌, Bool, true, false, List, [], ◌∷◌, ◌++◌, length, map, refl, sym, ap, ◌∙◌, subst, arith}
+use Rattle.std.proofs.Common.{◌≡◌, ◌≤◌, List, [], ◌∷◌, ◌++◌, length, map, refl, sym, ap, ◌∙◌, subst, arith}
 use Rattle.std.specs.Prelude.{All}
 use Rattle.std.specs.List.{flat_map}
-use Rattle.std.proofs.lemmas.List.{append-nil, length-map}
+use Rattle.std.proofs.lemmas.List.{length-map}
 use Rattle.std.proofs.lemmas.List.Concat.{flat_map-append}
 use Rattle.std.proofs.lemmas.List.Elements.{All-nil, All-cons}
 use Rattle.redn_syntax.specs.declared.tree.Name.{Name}
-use Rattle.redn_syntax.specs.declared.tree.Num.{Num}
 use Rattle.redn_syntax.specs.declared.tree.Operand.{Operand}
 use Rattle.redn_syntax.specs.declared.tree.Table.{Table}
 use Rattle.redn_syntax.specs.declared.tree.Stmt.{Stmt}
 use Rattle.redn_syntax.specs.declared.tree.StmtKind.{StmtKind}
 use Rattle.redn_syntax.specs.declared.tree.StmtKind.TheOpen.{StmtKind-F}
-use Rattle.redn_kernel.specs.declared.types.Word.{Word}
 use Rattle.redn_kernel.specs.declared.types.Kernel.{Kernel, every-Kernel}
 use Rattle.redn_kernel.specs.declared.types.Kernel.TheVariants as k
 use Rattle.redn_kernel.specs.declared.types.Kernel.TheOpen.{Kernel-F}
-use Rattle.redn_kernel.specs.declared.types.TableInit.{TableInit}
-use Rattle.redn_kernel.specs.Program.{IsNamed, IsSearch, IsSoundStatement}
+use Rattle.redn_kernel.specs.Program.{IsSearch, IsSoundStatement}
 use Rattle.redn_kernel.proofs.Cases.{every_of}
 use Rattle.redn_check.specs.declared.fault.Fault.{Fault}
 use Rattle.redn_check.specs.Faults.{fault, when}
 use Rattle.redn_check.specs.Statements.{layer_of, blocks, inner, with_inner, each_of, is_idle_body}
-use Rattle.redn_check.specs.Names.{table_names, table_of, declares, named}
-use Rattle.redn_check.specs.Rules.{undeclared, variables_in, tables_in, read_only, is_read_only, overwritten, written_over, out_of_range, number_faults, statement_faults, unreached, idle_loop, flow_faults, one_too_many, place_of_operand}
+use Rattle.redn_check.specs.Names.{table_names, named}
+use Rattle.redn_check.specs.Rules.{undeclared, variables_in, tables_in, read_only, overwritten, written_over, out_of_range, number_faults, statement_faults, unreached, idle_loop, flow_faults, place_of_operand}
 use Rattle.redn_check.specs.Numbering.{number_of, word_of, kernel_of, table_init}
 use Rattle.redn_check.proofs.Nothing.{nil_left, nil_right, when_none}
 use Rattle.redn_check.proofs.Inner.{Each, Each-left, Each-right, by_inner}
-use Rattle.redn_check.proofs.Gathered.{in_body, in_body-append, in_statement, in_block, in_blocks}
+use Rattle.redn_check.proofs.Gathered.{in_body, in_body-append, in_statement}
 use Rattle.redn_check.proofs.Numbered.{outside_most, outside_least, kernel_move, kernel_add, kernel_load, kernel_store, kernel_if, kernel_loop, kernel_repeat, kernel_break, kernel_lookup, kernel_walk, kernel_reply}
 use Rattle.redn_check.proofs.Accepted.{few}
 use Rattle.redn_check.proofs.Carried.{same_idle_body}

@@ -1,6 +1,6 @@
 -- One more name of a list, as in a loop.
 use Rattle.std.proofs.Common.{◌≡◌, ℕ, ◌+◌, ◌<◌, List, [], ◌∷◌, ◌++◌, length, map, take, get_or, Option, sym, ap, ◌∙◌, arith}
-use Rattle.std.proofs.lemmas.List.{take_more, map_more, length-map, length-take-le, append_assoc, length-append}
+use Rattle.std.proofs.lemmas.List.{map_more, length-map, length-take-le, append_assoc, length-append}
 use Rattle.redn_syntax.specs.declared.tree.Name.{Name}
 use Rattle.redn_check.specs.declared.fault.Fault.{Fault}
 use Rattle.redn_check.specs.Faults.{fault, when, earlier, first_of}

@@ -1,8 +1,7 @@
 -- What a tree that some text has holds besides the rules: a chain, and a word in each reply.
-use Rattle.std.proofs.Common.{◌≡◌, ℕ, zero, suc, ◌<◌, ◌≤◌, inl, inr, List, [], ◌∷◌, ◌++◌, length, refl, sym, ap, ◌∙◌, arith}
+use Rattle.std.proofs.Common.{◌≡◌, ℕ, zero, suc, ◌≤◌, List, [], ◌∷◌, ◌++◌, length, refl, ◌∙◌, arith}
 use Rattle.std.specs.List.{flat_map}
 use Rattle.std.proofs.lemmas.List.Concat.{flat_map-append}
-use Rattle.redn_syntax.specs.declared.tree.Operand.{Operand}
 use Rattle.redn_syntax.specs.declared.tree.Chain.{Chain}
 use Rattle.redn_syntax.specs.declared.tree.File.{File}
 use Rattle.redn_syntax.specs.declared.tree.Stmt.{Stmt}
@@ -11,8 +10,6 @@ use Rattle.redn_syntax.specs.declared.tree.StmtKind.TheOpen.{StmtKind-F}
 use Rattle.redn_syntax.specs.Lexemes.{Lexeme}
 use Rattle.redn_syntax.specs.Grammar as g
 use Rattle.redn_syntax.specs.Grammar.{Phrase, AnyPlace, block_within, chain_within, IsWritable}
-use Rattle.redn_check.specs.declared.fault.Fault.{Fault}
-use Rattle.redn_check.specs.Faults.{fault}
 use Rattle.redn_check.specs.Statements.{layer_of, inner, with_inner, each_of}
 use Rattle.redn_check.proofs.Inner.{Each}
 use Rattle.redn_check.proofs.Gathered.{in_body, in_statement, in_block, in_blocks}

@@ -1,5 +1,5 @@
 -- Each rule once, kept and broken, computed.
-use Rattle.std.proofs.Common.{◌≡◌, ℕ, Bool, true, false, List, [], ◌∷◌, ◌++◌, Option, Some, None, codes, replicate, refl}
+use Rattle.std.proofs.Common.{◌≡◌, ℕ, Bool, true, false, List, [], ◌∷◌, ◌++◌, Some, None, codes, replicate, refl}
 use Rattle.std.specs.List.{range_with_len}
 use Rattle.redn_syntax.specs.declared.tree.Name.{Name}
 use Rattle.redn_syntax.specs.declared.tree.Num.{Num}
@@ -8,14 +8,12 @@ use Rattle.redn_syntax.specs.declared.tree.Operand.TheVariants as operand
 use Rattle.redn_syntax.specs.declared.tree.Item.{Item}
 use Rattle.redn_syntax.specs.declared.tree.Table.{Table}
 use Rattle.redn_syntax.specs.declared.tree.VarDecl.{VarDecl}
-use Rattle.redn_syntax.specs.declared.tree.Chain.{Chain}
 use Rattle.redn_syntax.specs.declared.tree.File.{File}
 use Rattle.redn_syntax.specs.declared.tree.Stmt.{Stmt}
 use Rattle.redn_syntax.specs.declared.tree.StmtKind.TheVariants as k
 use Rattle.redn_check.specs.Faults.{fault, first_of}
 use Rattle.redn_check.specs.Rules.{faults, one_too_many, bad_length, bad_item, table_faults, outside, weights, weight_at, too_heavy}
-use Rattle.redn_check.proofs.WrittenOut.{stmt, inner_move, exits_move, idles_move, breaks_move, inner_add, exits_add, idles_add, breaks_add, inner_store, exits_store, breaks_store, inner_if, exits_if, idles_if, inner_loop, exits_loop, idles_loop, breaks_loop, inner_repeat, exits_repeat, breaks_repeat, inner_break, exits_break, idles_break, breaks_break, inner_lookup, exits_lookup, breaks_lookup, inner_walk, exits_walk, breaks_walk, inner_reply, exits_reply, breaks_reply}
-use Rattle.redn_check.proofs.Breaks.{breaks_of_if}
+use Rattle.redn_check.proofs.WrittenOut.{stmt, inner_add, exits_add, idles_add, inner_store, exits_store, breaks_store, inner_loop, exits_loop, idles_loop, breaks_loop, inner_repeat, inner_break, exits_break, idles_break, breaks_break, inner_lookup, exits_lookup, breaks_lookup, inner_walk, exits_walk, breaks_walk, inner_reply, exits_reply, breaks_reply}
 
 abbrev pub name : List ℕ → ℕ → Name
 name text at = record { text = text; at = at }

@@ -1,6 +1,5 @@
 -- Statements that are written out: what stands in each, how it may be left, and whether it is idle.
 use Rattle.std.proofs.Common.{◌≡◌, ℕ, Bool, true, false, ◌||◌, List, [], ◌∷◌, ◌++◌, map, ap, ◌∙◌}
-use Rattle.std.specs.List.{flat_map}
 use Rattle.redn_syntax.specs.declared.tree.Name.{Name}
 use Rattle.redn_syntax.specs.declared.tree.Num.{Num}
 use Rattle.redn_syntax.specs.declared.tree.Operand.{Operand}
@@ -8,7 +7,7 @@ use Rattle.redn_syntax.specs.declared.tree.Stmt.{Stmt}
 use Rattle.redn_syntax.specs.declared.tree.StmtKind.{StmtKind, out-StmtKind}
 use Rattle.redn_syntax.specs.declared.tree.StmtKind.TheVariants as k
 use Rattle.redn_syntax.specs.declared.tree.StmtKind.TheOpen.{StmtKind-F}
-use Rattle.redn_kernel.specs.Program.{Exits, exits, some_break, Idles, idles, break_idly}
+use Rattle.redn_kernel.specs.Program.{exits, some_break, idles, break_idly}
 use Rattle.redn_check.specs.Statements.{inner, exits_by, exits_of, idles_by, idles_of, breaks_by, breaks_of, falls_through, with_inner, each_of}
 use Rattle.redn_check.proofs.Inner.{with_inner_is}
 use Rattle.redn_check.proofs.Cases.{exits_out, idles_out, breaks_out}

@@ -1,5 +1,5 @@
 -- What the walk over statements finds out about one statement, and about a list of them.
-use Rattle.std.specs.Prelude.{ℕ, ◌+◌, ◌-◌, ◌^◌, min, List, map}
+use Rattle.std.specs.Prelude.{◌-◌, ◌^◌, min, List, map}
 use Rattle.std.specs.List.{flat_map}
 use Rattle.redn_syntax.specs.declared.tree.Stmt.{Stmt}
 use Rattle.redn_kernel.specs.Program.{some_break, break_idly}

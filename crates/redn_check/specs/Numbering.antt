@@ -1,5 +1,5 @@
 -- The program that a file is, with numbers in place of names.
-use Rattle.std.specs.Prelude.{ℕ, ◌+◌, List, [], ◌∷◌, ◌++◌, length, map, fold, replicate, Option, unwrap_or}
+use Rattle.std.specs.Prelude.{ℕ, List, ◌++◌, length, map, fold, replicate, unwrap_or}
 use Rattle.std.specs.Option.{option_map_or}
 use Rattle.redn_words.specs.Words.{with_bytes_at, spelled}
 use Rattle.redn_syntax.specs.declared.tree.Name.{Name}

@@ -403,6 +403,55 @@ fn each_rule_is_refused_with_its_place(rt: HostRuntime) -> Result<(), Fail> {
     Ok(())
 }
 
+/// So many chains, whose names stand 23 bytes apart from byte 6 on.
+fn chains(alloc: Global, count: usize) -> Result<String, Fail> {
+    let mut text = String::new(alloc);
+    for _ in 0..count {
+        let name = 10 + text.len() / 23;
+        write!(text, "chain c{name} {{ reply 1; }} ")?;
+    }
+    Ok(text)
+}
+
+/// A chain of so many variables, whose names stand 10 bytes apart from byte 14 on.
+fn variables(alloc: Global, count: usize) -> Result<String, Fail> {
+    let mut text = String::from_str(alloc, "chain c { ")?;
+    for _ in 0..count {
+        let name = 99 + text.len() / 10;
+        write!(text, "var v{name}; ")?;
+    }
+    text.push_str("reply 1; }")?;
+    Ok(text)
+}
+
+#[test]
+fn sixteen_chains_and_256_variables_are_the_most(rt: HostRuntime) -> Result<(), Fail> {
+    let alloc = rt.alloc();
+    let many = chains(alloc, 16)?;
+    assert_eq!(rt; check(alloc, many.as_bytes())?.status, Status::Done);
+    let too_many = chains(alloc, 17)?;
+    assert_eq!(rt;
+        check(alloc, too_many.as_bytes())?.status,
+        Status::Program {
+            rule: 9,
+            at: 374,
+            seen: 17
+        }
+    );
+    let many = variables(alloc, 256)?;
+    assert_eq!(rt; check(alloc, many.as_bytes())?.status, Status::Done);
+    let too_many = variables(alloc, 257)?;
+    assert_eq!(rt;
+        check(alloc, too_many.as_bytes())?.status,
+        Status::Program {
+            rule: 11,
+            at: 2574,
+            seen: 257
+        }
+    );
+    Ok(())
+}
+
 /// A chain of so many moves and a reply.
 fn moves(alloc: Global, count: usize) -> Result<String, Memory> {
     let mut text = String::from_str(alloc, "chain c { var x; ")?;

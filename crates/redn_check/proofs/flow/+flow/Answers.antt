@@ -1,4 +1,4 @@
-use Rattle.std.proofs.Common.{◌∙◌, ap, sym}
+use Rattle.std.proofs.Common.{◌∙◌, ap}
 use Rattle.redn_syntax.specs.declared.tree.StmtKind.{out-StmtKind}
 use Rattle.redn_syntax.specs.declared.tree.StmtKind.TheVariants.{outs-Break, outs-Reply}
 use Rattle.redn_check.proofs.Flows.{flow_break, flow_reply, flow_simple}

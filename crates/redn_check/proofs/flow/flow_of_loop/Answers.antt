@@ -1,4 +1,4 @@
-use Rattle.std.proofs.Common.{◌≡◌, ◌||◌, ◌∙◌, false}
+use Rattle.std.proofs.Common.{◌∙◌, false}
 use Rattle.redn_check.specs.Faults.{earlier, first_of, when, fault}
 use Rattle.redn_check.proofs.Flows.{flow, flow_loop}
 use Rattle.redn_check.proofs.flow.flow_of_loop.Goals as goal

@@ -1,4 +1,4 @@
-use Rattle.std.proofs.Common.{◌∙◌, ap, sym, take, [], ◌≡◌}
+use Rattle.std.proofs.Common.{◌∙◌, ap, sym, take}
 use Rattle.std.specs.List.{flat_map}
 use Rattle.redn_check.specs.Faults.{first_of}
 use Rattle.redn_check.specs.Rules.{misplaced}

@@ -1,4 +1,4 @@
-use Rattle.std.proofs.Common.{◌∙◌, ap, sym, take, ◌≡◌, length, ◌==◌, ◌++◌, arith, refl}
+use Rattle.std.proofs.Common.{◌∙◌, ap, sym, take, length, ◌==◌, ◌++◌, arith, refl}
 use Rattle.std.proofs.lemmas.List.{length-take-le}
 use Rattle.redn_check.specs.Faults.{first_of, fault, when}
 use Rattle.redn_check.specs.Rules.{bad_length, bad_item, table_faults}

@@ -1,4 +1,4 @@
-use Rattle.std.proofs.Common.{◌≡◌, ◌++◌, take, map}
+use Rattle.std.proofs.Common.{◌≡◌, ◌++◌, take}
 use Rattle.redn_check.specs.Faults.{first_of}
 use Rattle.redn_check.specs.Names.{Holds, variable_names}
 use Rattle.redn_check.specs.Rules.{twice}

@@ -1,4 +1,4 @@
-use Rattle.std.proofs.Common.{rules, ap, sym, ◌∙◌, ◌≡◌, ◌≤◌, arith, map}
+use Rattle.std.proofs.Common.{rules, ap, sym, ◌∙◌, ◌≤◌, arith, map}
 use Rattle.redn_syntax.specs.declared.tree.StmtKind.{out-StmtKind, the_lemmas}
 use Rattle.redn_syntax.specs.declared.tree.Stmt as q
 use Rattle.redn_syntax.specs.declared.tree.StmtKind.TheVariants.{outs-If, outs-Loop, outs-Repeat, outs-Move, outs-Add, outs-Load, outs-Store, outs-Break, outs-Lookup, outs-Walk, outs-Reply}

@@ -1,4 +1,4 @@
-use Rattle.std.proofs.Common.{◌≡◌, ◌≤◌, ◌<◌, ◌∙◌, length, ap, sym, subst, [], List, get_or}
+use Rattle.std.proofs.Common.{◌≤◌, ◌∙◌, length, ap, sym, subst, List}
 use Rattle.std.specs.List.{flat_map}
 use Rattle.redn_syntax.specs.declared.tree.Table.{Table}
 use Rattle.redn_check.specs.Rules.{chain_faults}

@@ -1,4 +1,4 @@
-use Rattle.std.proofs.Common.{arith, ap, length, ◌≤◌, ◌+◌}
+use Rattle.std.proofs.Common.{arith, length, ◌≤◌, ◌+◌}
 use Rattle.redn_check.proofs.Behind.{fits_here, good_last}
 use Rattle.redn_check.proofs.Written.{written_more}
 use Rattle.redn_check.proofs.number.write_items.Goals as goal

@@ -1,4 +1,4 @@
-use Rattle.std.proofs.Common.{◌≡◌, take, fold, length}
+use Rattle.std.proofs.Common.{◌≡◌, take, fold}
 use Rattle.redn_check.specs.Numbering.{placed, written}
 use Rattle.redn_check.specs.Rules.{end_of}
 use Rattle.redn_check.proofs.number.write_items.Given as goal

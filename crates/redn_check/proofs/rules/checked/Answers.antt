@@ -1,4 +1,4 @@
-use Rattle.std.proofs.Common.{◌≡◌, ◌∙◌, sym, ap, rules, inl, Some, None, []}
+use Rattle.std.proofs.Common.{◌≡◌, ◌∙◌, sym, ap, rules, inl, Some, None}
 use Rattle.std.proofs.lemmas.Option.{same_Some}
 use Rattle.redn_check.specs.declared.fault.CheckFault.TheVariants.{Rule}
 use Rattle.redn_check.specs.Faults.{fault, first_of}

@@ -1,5 +1,5 @@
-use Rattle.std.proofs.Common.{◌∙◌, sym, ap, ◌≡◌, Option, None, Some, slice_get}
-use Rattle.redn_check.specs.Names.{place_of, table_names, table_of}
+use Rattle.std.proofs.Common.{◌∙◌, sym, ap, ◌≡◌, None, Some}
+use Rattle.redn_check.specs.Names.{place_of, table_names}
 use Rattle.redn_check.specs.Rules.{is_read_only}
 use Rattle.redn_check.proofs.Places.{found_table, no_table}
 use Rattle.redn_check.proofs.scope.is_read_only.Goals as goal

@@ -4,8 +4,7 @@ use Rattle.redn_syntax.specs.declared.tree.StmtKind.{out-StmtKind}
 use Rattle.redn_check.specs.Names.{variables}
 use Rattle.redn_check.specs.Rules.{statement_faults}
 use Rattle.redn_check.specs.Faults.{first_of}
-use Rattle.redn_check.specs.Statements.{with_inner, each_of}
-use Rattle.std.specs.List.{flat_map}
+use Rattle.redn_check.specs.Statements.{with_inner}
 use Rattle.redn_check.proofs.Gathered.{found_if, found_loop, found_repeat, found_plain, in_body, no_blocks}
 use Rattle.redn_check.proofs.Firsts.{first_more_of, stepped}
 use Rattle.redn_check.proofs.statements.+look.Goals as goal

@@ -1,4 +1,4 @@
-use Rattle.std.proofs.Common.{◌++◌, refl}
+use Rattle.std.proofs.Common.{◌++◌}
 use Rattle.redn_check.specs.Names.{variables, table_names}
 use Rattle.redn_check.specs.Rules.{undeclared, variables_in, tables_in, read_only, overwritten, number_faults}
 use Rattle.redn_check.specs.Statements.{layer_of}

@@ -1,10 +1,9 @@
-use Rattle.std.proofs.Common.{◌≡◌, ◌∙◌, ◌∷◌, [], ◌++◌, ap, arith, take, List}
+use Rattle.std.proofs.Common.{◌∙◌, ◌∷◌, [], ◌++◌, ap, take}
 use Rattle.std.proofs.lemmas.List.{take_all}
 use Rattle.redn_syntax.specs.declared.tree.StmtKind.{out-StmtKind}
 use Rattle.redn_syntax.specs.declared.tree.StmtKind.TheVariants.{outs-If, outs-Loop, outs-Repeat}
 use Rattle.redn_check.specs.Flow.{load_of}
-use Rattle.redn_check.specs.Rules.{Weight, weights_in, weight_at}
-use Rattle.redn_check.specs.Statements.{each_of}
+use Rattle.redn_check.specs.Rules.{weight_at}
 use Rattle.redn_check.proofs.Gathered.{no_blocks}
 use Rattle.redn_check.proofs.Weighed.{own, in_body, weighed_if, weighed_loop, weighed_repeat, weighed_plain, weighed_more}
 use Rattle.redn_check.proofs.weight.+weigh.Goals as goal

@@ -1,7 +1,5 @@
-use Rattle.std.proofs.Common.{◌≡◌, ◌∙◌, ◌∷◌, [], ◌++◌, ap, sym, take, map, take}
+use Rattle.std.proofs.Common.{◌∙◌, ◌++◌, ap, take, map, take}
 use Rattle.std.specs.List.{flat_map}
-use Rattle.std.proofs.lemmas.List.{append_assoc, append-nil, take_more}
-use Rattle.std.proofs.lemmas.List.Concat.{flat_map-append}
 use Rattle.redn_check.specs.Flow.{load_of}
 use Rattle.redn_check.specs.Rules.{weights, weight_at}
 use Rattle.redn_check.proofs.Weighed.{in_body, chain_more}
