@@ -1,6 +1,6 @@
 -- Requests in flight, found by index.
 use Rattle.std.specs.List.{All}
-use Rattle.std.proofs.Common.{◌≡◌, ◌≢◌, ℕ, zero, suc, ◌+◌, ◌<◌, ◌≤◌, ◌++◌, Result, Ok, Err, IfOk, inl, inr, drop, zero-add, Bool, true, false, not, ◌&&◌, ◌==◌, cond, List, [], ◌∷◌, Some, None, length, get_or, set, refl, sym, ap, subst, ◌∙◌, arith}
+use Rattle.std.proofs.Common.{◌≡◌, ◌≢◌, ℕ, zero, suc, ◌+◌, ◌<◌, ◌≤◌, Result, Ok, Err, IfOk, inl, inr, zero-add, Bool, true, false, not, ◌&&◌, ◌==◌, cond, List, [], ◌∷◌, Some, None, length, get_or, set, refl, sym, ap, subst, ◌∙◌, arith}
 use Rattle.std.specs.List.{position, position_from}
 use Rattle.redn_words.specs.declared.types.Flight.{Flight}
 use Rattle.std.proofs.lemmas.Iterator.Adapters.{position_from-zero}
@@ -11,10 +11,10 @@ use Rattle.std.specs.List.Sorted.{IsSearchInRange, IsBinarySearchResult, IsNonDe
 use Rattle.std.proofs.lemmas.Cmp.{ranked}
 use Rattle.std.proofs.lemmas.Bool.{cases_lt, cases_eq, and_right, and_from, eq-eqb}
 use Rattle.std.proofs.lemmas.Bool.Decides.{nat_tests}
-use Rattle.std.proofs.lemmas.List.{get_or_read, set_past, get_or-set_same, get_or-set_other, length-set}
-use Rattle.std.proofs.lemmas.List.Elements.{All-tail, All-push}
-use Rattle.std.proofs.lemmas.List.Quantifiers.{all_pairs_push}
-use Rattle.redn_adapter.specs.Flights.{IsRising, AllBelow, StandsAt}
+use Rattle.std.proofs.lemmas.List.{get_or_read}
+use Rattle.std.proofs.lemmas.List.Elements.{All-tail}
+use Rattle.redn_words.specs.InOrder.{IsRising}
+use Rattle.redn_adapter.specs.Flights.{StandsAt}
 
 abbrev pub test : ℕ → Flight → Bool
 test i f = f.index == i && not f.landed
@@ -125,35 +125,3 @@ module _ (i : ℕ) (fs : List Flight) (rising : IsRising fs) (place : ℕ) (stan
 
 pub position_absent : (i : ℕ) (fs : List Flight) → All (λ (f : Flight). f.index ≢ i) fs → position (test i) fs ≡ None
 position_absent i fs h = position_none i fs (λ k d l. other_index i (get_or fs k d) (h k d l))
-
--- the order of the requests in flight through each change
-pub IsRising-push : (fs : List Flight) (f : Flight) → IsRising fs → AllBelow f.index fs → IsRising (fs ++ f ∷ [])
-IsRising-push fs f rising below = all_pairs_push (λ (f g : Flight). f.index < g.index) fs f rising below
-
-pub AllBelow-more : (n m : ℕ) (fs : List Flight) → n ≤ m → AllBelow n fs → AllBelow m fs
-AllBelow-more n m fs le below = λ k d l. omega (arith, below k d l)
-
-pub AllBelow-push : (n m : ℕ) (fs : List Flight) (f : Flight) → n ≤ m → f.index < m → AllBelow n fs → AllBelow m (fs ++ f ∷ [])
-AllBelow-push n m fs f le lt below = All-push (λ (g : Flight). g.index < m) fs f (AllBelow-more n m fs le below) lt
-
-pub IsRising-drop : (fs : List Flight) → IsRising fs → IsRising (drop 1 fs)
-IsRising-drop [] rising = rising
-IsRising-drop (f ∷ fs) rising = λ i j d lt l. rising (suc i) (suc j) d (omega arith) (omega arith)
-
--- a change that keeps the index of the request at a place
-module _ (fs : List Flight) (place : ℕ) (f : Flight) (keeps : (d : Flight) → f.index ≡ (get_or fs place d).index) where
-  index_kept : (k : ℕ) (d : Flight) → (get_or (set fs place f) k d).index ≡ (get_or fs k d).index
-  index_kept k d =
-      elim (cases_eq k place) [
-        | inl same ↦ elim (cases_lt place (length fs)) [
-          | inl l ↦ ap (λ n. (get_or (set fs place f) n d).index) same ∙ ap (λ (g : Flight). g.index) (get_or-set_same fs place f d l) ∙ keeps d ∙ ap (λ n. (get_or fs n d).index) (sym same)
-          | inr past ↦ ap (λ (gs : List Flight). (get_or gs k d).index) (set_past fs place f past)
-        ]
-        | inr ne ↦ ap (λ (g : Flight). g.index) (get_or-set_other fs place k f d ne)
-      ]
-
-  pub IsRising-set : IsRising fs → IsRising (set fs place f)
-  IsRising-set rising = λ i j d lt l. omega (arith, index_kept i d, index_kept j d, rising i j d lt (omega (arith, length-set fs place f)))
-
-  pub AllBelow-set : (n : ℕ) → AllBelow n fs → AllBelow n (set fs place f)
-  AllBelow-set n below = λ k d l. omega (arith, index_kept k d, below k d (omega (arith, length-set fs place f)))

@@ -4,7 +4,6 @@ pub mod Delivery
 pub mod FirstWords
 pub mod ReadWords
 pub mod Lands
-pub mod Misfits
 pub mod Starts
 pub mod Images
 mod Worked

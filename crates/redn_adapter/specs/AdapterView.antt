@@ -1,32 +1,33 @@
 -- How the fields of an adapter are seen, and what they keep.
 use Rattle.std.specs.Prelude.{◌≡◌, ℕ, ◌+◌, ◌*◌, ◌<◌, ◌≤◌, length, slice_get, Option, Some, None, IfSome}
 use Rattle.std.specs.List.{All}
+use Rattle.redn_words.specs.declared.limits.TheConstants.{GREATEST_MEMORY, GREATEST_RING}
 use Rattle.redn_words.specs.declared.types.QueueRow.{QueueRow}
-use Rattle.redn_words.specs.States.{Queue, Chain}
 use Rattle.redn_words.specs.declared.types.Receive.{Receive}
+use Rattle.redn_words.specs.States.{Queue, Chain}
+use Rattle.redn_words.specs.Access.{EndsBy}
 use Rattle.redn_adapter.specs.Mails.{pending_bytes}
-use Rattle.redn_adapter.specs.Ends.{EndsBy}
 use Rattle.redn_adapter.specs.Running.{Running}
 use Rattle.redn_adapter.specs.declared.adapter.Adapter.TheInside.{Inside}
 
 abbrev pub adapter_view : Inside → Running
 adapter_view a =
     record {
-      state = record { regions = a.regions.items; receives = a.receives.items; memory = a.memory.items; queues = a.queues.items; chains = a.chains.items };
+      state = record { regions = a.regions; receives = a.receives.items; memory = a.memory.items; queues = a.queues.items; chains = a.chains.items };
       steps = a.steps;
     }
 
 -- a ring lies in so many bytes of memory
 pub record IsRing (size : ℕ) (row : QueueRow) : Type 0 where
   pub some : 0 < row.slots
-  pub few : row.slots ≤ 65536
+  pub few : row.slots ≤ GREATEST_RING
   pub inside : row.base + 64 * row.slots ≤ size
 
 -- head and counter have risen by at most 1 in each step
-pub record IsQueueAt (size steps : ℕ) (u : Queue) : Type 0 where
-  pub ring : IsRing size u.row
-  pub head : u.head ≤ steps
-  pub counter : u.counter ≤ steps
+pub record IsQueueAt (size steps : ℕ) (queue : Queue) : Type 0 where
+  pub ring : IsRing size queue.row
+  pub head : queue.head ≤ steps
+  pub counter : queue.counter ≤ steps
 
 -- a message has the length of its place
 abbrev pub MailFits : Option Receive → Option Chain → Type 0
@@ -35,8 +36,8 @@ MailFits (Some place) None = Unit {0}
 MailFits (Some place) (Some c) = IfSome (pending_bytes c.mail) (λ bytes. length bytes ≡ place.len)
 
 pub record IsAdapter (a : Inside) : Type 0 where
-  pub size : length a.memory.items ≤ 33554432
-  pub regions : EndsBy (length a.memory.items) a.regions.items
+  pub size : length a.memory.items ≤ GREATEST_MEMORY
+  pub regions : EndsBy (length a.memory.items) a.regions
   pub chains : All (λ (c : Chain). c.received ≤ a.steps) a.chains.items
   pub receives : All (λ (r : Receive). r.base + r.len ≤ length a.memory.items) a.receives.items
   pub mails : (k : ℕ) → k < length a.chains.items → MailFits (slice_get a.receives.items k) (slice_get a.chains.items k)

@@ -1,10 +1,8 @@
 pub mod Pools
 pub mod Flights
 pub mod QueueView
-pub mod Ends
 pub mod Landed
 pub mod Running
-pub mod Begins
 pub mod Opening
 pub mod Mails
 pub mod ChainView

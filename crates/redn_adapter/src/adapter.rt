@@ -3,15 +3,17 @@ ghost use Rattle.redn_words.specs.Steps.{fetch_possible, land_possible, complete
 ghost use Rattle.redn_words.specs.Words.{with_bytes_at};
 ghost use Rattle.redn_words.specs.States.{slot_of};
 ghost use Rattle.redn_adapter.specs.Opening.{misfits, opened};
-ghost use Rattle.redn_adapter.specs.Begins.{begun_shows};
 
 use crate::chain::Chain;
-use crate::codec::{decode, opcode};
 use crate::landing::{Landing, land_request};
-use crate::opening::{OpenFault, first_chains, first_misfit, first_queues};
+use crate::opening::{OpenFault, first_chains, first_misfit, first_queues, registered};
 use crate::queue::Queue;
 use redn_image::Image;
-use redn_words::{Action, Messages, Obs, Opcode, Origin, QueueRow, Receive, Region, Request};
+use redn_region::Regions;
+use redn_words::{
+    Action, Class, GREATEST_MEMORY, Messages, Obs, Origin, QueueRow, RECEIVE_BASE, Receive, Request,
+};
+use redn_wqe::{class, decode, opcode};
 use std::alloc::Global;
 use std::marker::Model;
 
@@ -19,7 +21,7 @@ use std::marker::Model;
 fn slot_at(memory: &[u8], row: &QueueRow, index: u64) -> [u8; 64]
     requires some { 0 < row.now.slots }
     requires inside { row.now.base + 64 * row.now.slots ≤ length memory.now }
-    requires size { length memory.now ≤ 33554432 }
+    requires size { length memory.now ≤ GREATEST_MEMORY }
     ensures { result ≡ slot_of memory.now row.now index }
 {
     let at = (row.base + 64 * (index % row.slots)) as usize;
@@ -31,37 +33,17 @@ fn slot_at(memory: &[u8], row: &QueueRow, index: u64) -> [u8; 64]
 /// Puts some bytes at a place.
 fn write_at(memory: &mut [u8], at: u64, bytes: &[u8])
     requires inside { at + length bytes.now ≤ length memory.old }
-    requires size { length memory.old ≤ 33554432 }
+    requires size { length memory.old ≤ GREATEST_MEMORY }
     ensures { memory.new ≡ with_bytes_at memory.old at bytes.now }
 {
     let at = at as usize;
     memory[at..at + bytes.len()].copy_from_slice(bytes);
 }
 
-/// What the copy of a queue's head asks for where it starts: to pass, to stop the queue as refused
-/// or undefined, to raise a queue's limit, or to go into flight.
-#[derive(Clone, Copy, Debug)]
-pub enum Begin {
-    Pass,
-    Refused,
-    Undefined,
-    Raise { queue: u64, limit: u64 },
-    Fly,
-}
-
-/// The copy of a queue's head, and whether its slot has other bytes by now.
-#[derive(Clone, Copy, Debug)]
-pub struct Head {
-    pub domain: u16,
-    pub index: u64,
-    pub copy: [u8; 64],
-    pub old: bool,
-}
-
 /// An emulated adapter: the state that its steps have reached, and how many they were.
 #[derive(Drop)]
 pub struct Adapter {
-    regions: Vec<Region>,
+    regions: Regions,
     receives: Vec<Receive>,
     memory: Vec<u8>,
     queues: Vec<Queue>,
@@ -107,11 +89,10 @@ fn can_complete(u: &Queue) -> bool
 impl Adapter {
     ghost use Rattle.std.specs.Option.{option_map};
     ghost use Rattle.redn_words.specs.Requests.{opcode_of};
-    ghost use Rattle.redn_words.specs.Steps.{possible, after, shown, step, counter_of, may_start, may_raise, is_old};
+    ghost use Rattle.redn_words.specs.Steps.{possible, after, shown, step, class_of, counter_of, may_start, may_raise, refused_start};
     ghost use Rattle.redn_words.specs.declared.types.Action.TheVariants as act;
-    ghost use Rattle.redn_adapter.specs.Running.{stepped, next_of, HeadIsHeld, HasRoom, aside, raised_after, flown_after};
+    ghost use Rattle.redn_adapter.specs.Running.{stepped, next_of, HeadIsHeld, HasRoom, aside, raised_after, flown_after, started_after, started_shown, CanStart};
     ghost use Rattle.redn_adapter.specs.AdapterView.{IsRing};
-    ghost use Rattle.redn_adapter.specs.Begins.{head_of, begin_of, begun, begun_shows, CanBegin};
 
     /// The steps made since the adapter was opened.
     pub fn steps(&self) -> u64
@@ -291,12 +272,12 @@ impl Adapter {
     fn counter(&self, domain: u16, number: u64) -> Option<u64>
         ensures { result ≡ counter_of self.now.state domain number }
     {
-        if number < 65536 {
+        if number < RECEIVE_BASE {
             match self.queues.get(number as usize) {
                 Some(u) if u.row().domain == domain => Some(u.counter()),
                 _ => None,
             }
-        } else if number - 65536 == domain as u64 {
+        } else if number - RECEIVE_BASE == domain as u64 {
             match self.chains.get(domain as usize) {
                 Some(chain) => Some(chain.received()),
                 None => None,
@@ -307,16 +288,16 @@ impl Adapter {
     }
 
     #[tactic(auto, unfolding(redn_words::specs::Steps::may_start))]
-    fn may_start(&self, u: &Queue, r: &Request, op: Opcode) -> bool
-        ensures { result ≡ may_start self.now.state u.now r.now op }
+    fn may_start(&self, u: &Queue, r: &Request, class: Class) -> bool
+        ensures { result ≡ may_start self.now.state u.now r.now class }
     {
-        match op {
-            Opcode::Wait => match self.counter(u.row().domain, r.first) {
+        match class {
+            Class::Flies => u.flights() < u.row().slots,
+            Class::Passes => match self.counter(u.row().domain, r.first) {
                 Some(count) => r.second <= count,
                 None => true,
             },
-            Opcode::Enable | Opcode::Undefined(_) => true,
-            _ => u.flights() < u.row().slots,
+            Class::Raises | Class::Undefined => true,
         }
     }
 
@@ -334,7 +315,7 @@ impl Adapter {
             return false;
         };
         let r = decode(&copy);
-        self.may_start(u, &r, opcode(&r))
+        self.may_start(u, &r, class(&r))
     }
 
     fn may_raise(&self, domain: u16, number: u64) -> bool
@@ -382,87 +363,70 @@ impl Adapter {
         self.steps += 1;
     }
 
-    /// The copy of a queue's head.
-    fn head(&self, queue: u32) -> Option<Head>
-        ensures { result ≡ head_of self.now.state (slice_get self.now.state.queues queue) }
+    /// Whether a start names a counter or a queue that its domain may not.
+    fn refuses(&self, domain: u16, r: &Request, class: Class) -> bool
+        ensures { result ≡ refused_start self.now.state domain r.now class }
     {
-        let u = self.queues.get(queue as usize)?;
-        let copy = u.held_head()?;
-        let (row, index) = (u.row(), u.head());
-        let slot = slot_at(&self.memory, &row, index);
-        let old = copy != slot;
-        Some(Head {
-            domain: row.domain,
-            index,
-            copy,
-            old,
-        })
-    }
-
-    /// What a request of a domain asks for.
-    #[tactic(auto, unfolding(crate::specs::Begins::begin_of))]
-    fn begin(&self, domain: u16, r: &Request) -> Begin
-        ensures { result ≡ begin_of self.now.state domain r.now (opcode_of r.now) }
-    {
-        match opcode(r) {
-            Opcode::Wait => match self.counter(domain, r.first) {
-                Some(_) => Begin::Pass,
-                None => Begin::Refused,
-            },
-            Opcode::Enable if self.may_raise(domain, r.first) => Begin::Raise {
-                queue: r.first,
-                limit: r.second,
-            },
-            Opcode::Enable => Begin::Refused,
-            Opcode::Undefined(_) => Begin::Undefined,
-            _ => Begin::Fly,
+        match class {
+            Class::Passes => self.counter(domain, r.first).is_none(),
+            Class::Raises => !self.may_raise(domain, r.first),
+            Class::Flies | Class::Undefined => false,
         }
     }
 
-    /// The head of a queue starts.
-    fn leave(&mut self, queue: u32, copy: [u8; 64], begin: Begin)
+    /// What the start of a copy of a queue's head shows.
+    fn start_shown(&self, queue: u32, copy: &[u8; 64], r: &Request, class: Class) -> Obs
+        requires { queue < length self.now.state.queues }
+        ensures { result ≡ started_shown self.now.state queue copy.now r.now class }
+    {
+        let u = &self.queues[queue as usize];
+        let (row, index) = (u.row(), u.head());
+        if *copy != slot_at(&self.memory, &row, index) {
+            return Obs::Stale { queue, index };
+        }
+        if class == Class::Undefined {
+            return Obs::Undefined { queue, index };
+        }
+        if self.refuses(row.domain, r, class) {
+            return Obs::Refused { queue, index };
+        }
+        Obs::Nothing
+    }
+
+    /// The head of a queue starts, of which this is the copy.
+    #[tactic(auto, unfolding(redn_words::specs::Steps::started, redn_words::specs::Steps::may_start))]
+    fn leave(&mut self, queue: u32, copy: [u8; 64], r: &Request, class: Class)
         requires here { queue < length self.old.state.queues }
         requires held { HeadIsHeld (slice_get self.old.state.queues queue) }
-        requires can { CanBegin self.old.state queue begin }
+        requires can { CanStart self.old.state queue r.now class }
         requires few { self.old.steps < 2 ^ 62 }
-        ensures { self.new ≡ begun self.old queue copy begin }
+        ensures { self.new ≡ started_after self.old queue copy r.now class }
     {
-        match begin {
-            Begin::Pass => self.start_aside(queue, false),
-            Begin::Refused | Begin::Undefined => self.start_aside(queue, true),
-            Begin::Raise {
-                queue: number,
-                limit,
-            } => self.start_enable(queue, number, limit),
-            Begin::Fly => self.start_flight(queue, copy),
+        let domain = self.queues[queue as usize].row().domain;
+        let stops = self.refuses(domain, r, class);
+        match class {
+            Class::Flies => self.start_flight(queue, copy),
+            Class::Raises if !stops => self.start_enable(queue, r.first, r.second),
+            Class::Passes | Class::Raises => self.start_aside(queue, stops),
+            Class::Undefined => self.start_aside(queue, true),
         }
     }
 
+    #[tactic(auto, unfolding(redn_words::specs::Steps::possible))]
     fn start(&mut self, queue: u32) -> Obs
         requires possible { possible self.old.state (act.Start queue) ≡ true }
         requires few { self.old.steps < 2 ^ 62 }
         ensures next { self.new ≡ next_of self.old (act.Start queue) }
         ensures shown { result ≡ shown self.old.state (act.Start queue) }
     {
-        let Some(head) = self.head(queue) else {
+        let Some(copy) = self.queues[queue as usize].held_head() else {
             unreachable!()
         };
-        let begin = self.begin(head.domain, &decode(&head.copy));
-        self.leave(queue, head.copy, begin);
-        start_shown(queue, &head, begin)
-    }
-}
-
-/// What a start shows.
-fn start_shown(queue: u32, head: &Head, begin: Begin) -> Obs
-    ensures { result ≡ begun_shows queue head.now begin }
-{
-    let index = head.index;
-    match begin {
-        _ if head.old => Obs::Stale { queue, index },
-        Begin::Undefined => Obs::Undefined { queue, index },
-        Begin::Refused => Obs::Refused { queue, index },
-        _ => Obs::Nothing,
+        let r = decode(&copy);
+        let class = class(&r);
+        let shown = self.start_shown(queue, &copy, &r, class);
+        self.leave(queue, copy, &r, class);
+        shown
     }
 }
 
@@ -487,6 +451,7 @@ pub fn open(alloc: Global, i: Image, ms: Messages) -> Result<Adapter, OpenFault>
     if let Some(fault) = first_misfit(&receives, &list) {
         return Err(fault);
     }
+    let regions = registered(alloc, regions)?;
     let queues = first_queues(alloc, &rows)?;
     let chains = first_chains(alloc, list)?;
     Ok(Adapter {

@@ -5,13 +5,13 @@ ghost use Rattle.redn_words.specs.declared.types.Obs.TheVariants as shows;
 ghost use Rattle.redn_words.specs.declared.types.Opcode.TheVariants as op;
 ghost use Rattle.redn_words.specs.declared.types.Spot.{Spot as Place};
 ghost use Rattle.redn_words.specs.Landings.{Landing as LandingOf};
-ghost use Rattle.redn_adapter.specs.Ends.{EndsBy};
+ghost use Rattle.redn_words.specs.Access.{EndsBy};
 ghost use Rattle.redn_adapter.specs.Landed.{LandsAs, landed_on};
 
-use crate::access::{allowed, region};
+use redn_region::Regions;
 use redn_words::{
-    Kind, Need, Obs, Opcode, Origin, Refusal, Region, Request, Spot, copy_within_checked, put_word,
-    word_at,
+    GREATEST_MEMORY, Kind, Need, Obs, Opcode, Origin, Refusal, Request, Spot, copy_within_checked,
+    put_word, word_at,
 };
 
 /// How a landing went, and what it shows.
@@ -75,37 +75,35 @@ fn remote_need(op: Opcode) -> Need
     }
 }
 
-fn local_side(regions: &[Region], domain: u16, op: Opcode, r: &Request) -> Result<Spot, Refusal>
-    requires { EndsBy (2 ^ 64 - 1) regions.now }
+fn local_side(regions: &Regions, domain: u16, op: Opcode, r: &Request) -> Result<Spot, Refusal>
     ensures place { result ≡ local_side_of regions.now domain op r.now }
     ensures inside { (size : ℕ) → EndsBy size regions.now
         → IfOk result (λ s. s.at + side_len_of op r.now ≤ size) }
     ensures above { IfOk result (λ s. r.now.local ≤ s.at) }
 {
     let (len, need) = (side_len(op, r), local_need(op));
-    allowed(regions, domain, r.lkey, r.local, len, need)
+    regions.allowed(domain, r.lkey, r.local, len, need)
 }
 
-fn remote_side(regions: &[Region], domain: u16, op: Opcode, r: &Request) -> Result<Spot, Refusal>
-    requires { EndsBy (2 ^ 64 - 1) regions.now }
+fn remote_side(regions: &Regions, domain: u16, op: Opcode, r: &Request) -> Result<Spot, Refusal>
     ensures place { result ≡ remote_side_of regions.now domain op r.now }
     ensures inside { (size : ℕ) → EndsBy size regions.now
         → IfOk result (λ s. s.at + side_len_of op r.now ≤ size) }
     ensures above { IfOk result (λ s. r.now.remote ≤ s.at) }
 {
     let (len, need) = (side_len(op, r), remote_need(op));
-    allowed(regions, domain, r.rkey, r.remote, len, need)
+    regions.allowed(domain, r.rkey, r.remote, len, need)
 }
 
 /// What a request shows whose remote side is refused: a fault in a table, for its range alone.
-fn remote_refused(regions: &[Region], o: Origin, op: Opcode, r: &Request, e: Refusal) -> Obs
+fn remote_refused(regions: &Regions, o: Origin, op: Opcode, r: &Request, e: Refusal) -> Obs
     ensures { result ≡ remote_refused_of regions.now o op r.now e }
 {
     let moves = op == Opcode::Read || op == Opcode::Write;
     if e != Refusal::Range || !moves || r.length != 8 {
         return refused(o);
     }
-    let Some(row) = region(regions, r.rkey) else {
+    let Some(row) = regions.row(r.rkey) else {
         return refused(o);
     };
     match row.kind {
@@ -119,8 +117,7 @@ fn remote_refused(regions: &[Region], o: Origin, op: Opcode, r: &Request, e: Ref
 }
 
 /// The places of both sides, or what their refusal shows. The local side is checked first.
-fn both_sides(regions: &[Region], o: Origin, op: Opcode, r: &Request) -> Result<Sides, Obs>
-    requires { EndsBy (2 ^ 64 - 1) regions.now }
+fn both_sides(regions: &Regions, o: Origin, op: Opcode, r: &Request) -> Result<Sides, Obs>
     ensures exact { (go : Place → Place → LandingOf) → two_sides regions.now o op r.now
         (local_side_of regions.now o.chain op r.now)
         (remote_side_of regions.now o.chain op r.now) go ≡ landed_on result go }
@@ -303,9 +300,9 @@ fn send_shown(o: Origin, r: &Request, sent: &[u8], local: Kind) -> Obs
 
 /// A WRITE lands.
 #[tactic(auto, unfolding(redn_words::specs::Landings::lands))]
-fn land_write(mem: &mut [u8], regions: &[Region], o: Origin, r: &Request) -> Landing
+fn land_write(mem: &mut [u8], regions: &Regions, o: Origin, r: &Request) -> Landing
     requires inside { EndsBy (length mem.old) regions.now }
-    requires size { length mem.old ≤ 33554432 }
+    requires size { length mem.old ≤ GREATEST_MEMORY }
     ensures { LandsAs mem.old (lands regions.now o mem.old r.now op.Write) mem.new result }
 {
     let Sides { local, remote } = match both_sides(regions, o, Opcode::Write, r) {
@@ -319,9 +316,9 @@ fn land_write(mem: &mut [u8], regions: &[Region], o: Origin, r: &Request) -> Lan
 
 /// A READ lands.
 #[tactic(auto, unfolding(redn_words::specs::Landings::lands))]
-fn land_read(mem: &mut [u8], regions: &[Region], o: Origin, r: &Request) -> Landing
+fn land_read(mem: &mut [u8], regions: &Regions, o: Origin, r: &Request) -> Landing
     requires inside { EndsBy (length mem.old) regions.now }
-    requires size { length mem.old ≤ 33554432 }
+    requires size { length mem.old ≤ GREATEST_MEMORY }
     ensures { LandsAs mem.old (lands regions.now o mem.old r.now op.Read) mem.new result }
 {
     let Sides { local, remote } = match both_sides(regions, o, Opcode::Read, r) {
@@ -335,9 +332,9 @@ fn land_read(mem: &mut [u8], regions: &[Region], o: Origin, r: &Request) -> Land
 
 /// A CAS lands.
 #[tactic(auto, unfolding(redn_words::specs::Landings::lands))]
-fn land_cas(mem: &mut [u8], regions: &[Region], o: Origin, r: &Request) -> Landing
+fn land_cas(mem: &mut [u8], regions: &Regions, o: Origin, r: &Request) -> Landing
     requires inside { EndsBy (length mem.old) regions.now }
-    requires size { length mem.old ≤ 33554432 }
+    requires size { length mem.old ≤ GREATEST_MEMORY }
     ensures { LandsAs mem.old (lands regions.now o mem.old r.now op.Cas) mem.new result }
 {
     let Sides { local, remote } = match both_sides(regions, o, Opcode::Cas, r) {
@@ -354,9 +351,9 @@ fn land_cas(mem: &mut [u8], regions: &[Region], o: Origin, r: &Request) -> Landi
 
 /// An ADD lands.
 #[tactic(auto, unfolding(redn_words::specs::Landings::lands))]
-fn land_add(mem: &mut [u8], regions: &[Region], o: Origin, r: &Request) -> Landing
+fn land_add(mem: &mut [u8], regions: &Regions, o: Origin, r: &Request) -> Landing
     requires inside { EndsBy (length mem.old) regions.now }
-    requires size { length mem.old ≤ 33554432 }
+    requires size { length mem.old ≤ GREATEST_MEMORY }
     ensures { LandsAs mem.old (lands regions.now o mem.old r.now op.Add) mem.new result }
 {
     let Sides { local, remote } = match both_sides(regions, o, Opcode::Add, r) {
@@ -372,9 +369,9 @@ fn land_add(mem: &mut [u8], regions: &[Region], o: Origin, r: &Request) -> Landi
 
 /// A SEND lands.
 #[tactic(auto, unfolding(redn_words::specs::Landings::lands))]
-fn land_send(mem: &[u8], regions: &[Region], o: Origin, r: &Request) -> Landing
+fn land_send(mem: &[u8], regions: &Regions, o: Origin, r: &Request) -> Landing
     requires inside { EndsBy (length mem.now) regions.now }
-    requires size { length mem.now ≤ 33554432 }
+    requires size { length mem.now ≤ GREATEST_MEMORY }
     ensures { LandsAs mem.now (lands regions.now o mem.now r.now op.Send) mem.now result }
 {
     let Ok(local) = local_side(regions, o.chain, Opcode::Send, r) else {
@@ -389,13 +386,13 @@ fn land_send(mem: &[u8], regions: &[Region], o: Origin, r: &Request) -> Landing
 #[tactic(auto, unfolding(redn_words::specs::Landings::lands))]
 pub fn land_request(
     mem: &mut [u8],
-    regions: &[Region],
+    regions: &Regions,
     o: Origin,
     r: &Request,
     op: Opcode,
 ) -> Landing
     requires inside { EndsBy (length mem.old) regions.now }
-    requires size { length mem.old ≤ 33554432 }
+    requires size { length mem.old ≤ GREATEST_MEMORY }
     ensures { LandsAs mem.old (lands regions.now o mem.old r.now op) mem.new result }
 {
     match op {

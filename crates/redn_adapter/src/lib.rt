@@ -1,9 +1,7 @@
 #![tactic(auto)]
 
-mod access;
 mod adapter;
 mod chain;
-mod codec;
 mod landing;
 mod opening;
 mod queue;

@@ -4,11 +4,13 @@ ghost use Rattle.redn_words.specs.States.{fresh_queue};
 ghost use Rattle.redn_words.specs.Steps.{fetched, past_head, flown, landed_at, completed, raised, stopped, flying, flying_in, is_landed};
 ghost use Rattle.redn_words.specs.Requests.{decoded};
 ghost use Rattle.redn_adapter.specs.Running.{stopped_if};
-ghost use Rattle.redn_adapter.specs.Flights.{IsRising, AllBelow, StandsAt};
+ghost use Rattle.redn_words.specs.InOrder.{IsRising, AllBelow};
+ghost use Rattle.redn_adapter.specs.Flights.{StandsAt};
 ghost use Rattle.std.specs.Option.{option_map};
 ghost use Rattle.std.specs.List.{All, position};
 
-use redn_words::{Flight, QueueRow, word_at};
+use redn_words::{Flight, GREATEST_RING, QueueRow};
+use redn_wqe::{decode, is_signalled};
 use std::alloc::{AllocError, Global};
 use std::collections::VecDeque;
 use std::marker::Model;
@@ -46,7 +48,7 @@ impl Model for Queue {
 impl Queue {
     /// An empty queue with room for all its slots.
     pub fn new(alloc: Global, row: &QueueRow) -> Result<Self, AllocError>
-        requires { row.now.slots ≤ 65536 }
+        requires { row.now.slots ≤ GREATEST_RING }
         ensures { IfOk result (λ u. u ≡ fresh_queue row.now) }
     {
         let slots = row.slots as usize;
@@ -221,15 +223,11 @@ impl Queue {
 }
 
 /// 1 where the request is signalled, else 0.
-#[tactic(auto, unfolding(redn_words::specs::Requests::decoded))]
 fn signals(copy: &[u8; 64]) -> u64
     ensures value { result ≡ (decoded copy.now).flags % 2 }
     ensures small { result ≤ 1 }
 {
-    match word_at(copy, 56) {
-        Some(flags) => flags % 2,
-        None => 0,
-    }
+    u64::from(is_signalled(&decode(copy)))
 }
 
 /// The copy of the unlanded request of an index.

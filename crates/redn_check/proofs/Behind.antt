@@ -15,7 +15,7 @@ use Rattle.redn_check.specs.declared.fault.Fault.{Fault}
 use Rattle.redn_check.specs.Faults.{fault, when, first_of}
 use Rattle.redn_check.specs.Statements.{with_earlier}
 use Rattle.redn_check.specs.Rules.{offset_behind, end_of, is_misplaced, misplaced, place_of_item}
-use Rattle.redn_check.proofs.Firsts.{with_earlier_push}
+use Rattle.redn_check.proofs.EarliestOf.{with_earlier_push}
 use Rattle.redn_check.proofs.Nothing.{nil_left, nil_right, when_none}
 
 pub slice_get_right : {X : Type 0} (xs ys : List X) (k : ℕ) → length xs ≤ k → slice_get (xs ++ ys) k ≡ slice_get ys (k - length xs)

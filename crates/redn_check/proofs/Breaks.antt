@@ -13,7 +13,7 @@ use Rattle.redn_check.specs.Faults.{fault, earlier, first_of}
 use Rattle.redn_check.specs.Statements.{layer_of, breaks_by, breaks_of}
 use Rattle.redn_check.specs.Rules.{loose_breaks}
 use Rattle.redn_check.proofs.Cases.{breaks_out}
-use Rattle.redn_check.proofs.Firsts.{first_of-append}
+use Rattle.redn_check.proofs.EarliestOf.{first_of-append}
 
 abbrev pub loose : List ℕ → List Fault
 loose places = map (λ at. fault 4 at 0) places

@@ -18,7 +18,7 @@ use Rattle.redn_check.specs.Statements.{layer_of, blocks, inner, exits_by, exits
 use Rattle.redn_check.specs.Rules.{unreached, idle_loop, flow_faults}
 use Rattle.redn_check.specs.Flow.{statement_flow, body_flow}
 use Rattle.redn_check.proofs.Cases.{exits_out, idles_out}
-use Rattle.redn_check.proofs.Firsts.{first_of-append, first_push_earlier, earlier_assoc}
+use Rattle.redn_check.proofs.EarliestOf.{first_of-append, first_push_earlier, earlier_assoc}
 use Rattle.redn_check.proofs.Gathered.{in_body, in_body-append, found_if, found_loop, found_repeat, found_plain}
 
 abbrev pub flow : Bool → Bool → Bool → Bool → Option Fault → StatementFlow

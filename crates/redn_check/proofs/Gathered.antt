@@ -13,7 +13,7 @@ use Rattle.redn_check.specs.declared.fault.Fault.{Fault}
 use Rattle.redn_check.specs.Faults.{earlier, first_of}
 use Rattle.redn_check.specs.Statements.{layer_of, inner, with_inner, each_of}
 use Rattle.redn_check.proofs.Inner.{with_inner_is}
-use Rattle.redn_check.proofs.Firsts.{earlier_none, first_of-append}
+use Rattle.redn_check.proofs.EarliestOf.{earlier_none, first_of-append}
 
 module _ {X : Type 0} (g : Stmt → List X) where
   abbrev pub in_body : List Stmt → List X

@@ -1,6 +1,6 @@
 pub mod Nothing
 pub mod Inner
-pub mod Firsts
+pub mod EarliestOf
 pub mod Cases
 pub mod Gathered
 pub mod Places
@@ -12,7 +12,7 @@ pub mod Weighed
 pub mod Numbered
 pub mod Written
 pub mod Accepted
-pub mod First
+pub mod Earliest
 pub mod WrittenOut
 mod WorkedRules
 mod WorkedProgram

@@ -6,7 +6,7 @@ use Rattle.redn_check.specs.declared.fault.Fault.{Fault}
 use Rattle.redn_check.specs.Faults.{fault, when, earlier, first_of}
 use Rattle.redn_check.specs.Names.{declares}
 use Rattle.redn_check.specs.Rules.{twice}
-use Rattle.redn_check.proofs.Firsts.{first_push_earlier, stepped}
+use Rattle.redn_check.proofs.EarliestOf.{first_push_earlier, stepped}
 
 pub twice_more : (names more : List Name) (n : Name) (r a b : Option Fault) → more ≡ names ++ n ∷ [] → r ≡ earlier a b → a ≡ first_of (twice names) →
     b ≡ first_of (when (declares names n) (fault 2 n.at 0)) → r ≡ first_of (twice more)

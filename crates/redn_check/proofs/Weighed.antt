@@ -16,7 +16,7 @@ use Rattle.redn_check.specs.Faults.{fault, when, earlier, first_of}
 use Rattle.redn_check.specs.Statements.{layer_of, inner, with_inner, each_of, own_weight}
 use Rattle.redn_check.specs.Rules.{passes, Weight, weight_at, weights_in, weights, weight_of_all, too_heavy}
 use Rattle.redn_check.specs.Flow.{load_of}
-use Rattle.redn_check.proofs.Firsts.{first_push_earlier}
+use Rattle.redn_check.proofs.EarliestOf.{first_push_earlier}
 use Rattle.redn_check.proofs.Behind.{sum_push, capped}
 use Rattle.redn_check.proofs.Inner.{with_inner_is}
 

@@ -7,7 +7,7 @@ use Rattle.redn_words.specs.Words.{with_bytes_at, spelled}
 use Rattle.redn_syntax.specs.declared.tree.Item.{Item}
 use Rattle.redn_check.specs.Rules.{offset_behind, end_of}
 use Rattle.redn_check.specs.Numbering.{placed, written}
-use Rattle.redn_check.proofs.Firsts.{with_earlier_push}
+use Rattle.redn_check.proofs.EarliestOf.{with_earlier_push}
 
 pub placed_push : (items : List Item) (x : Item) → placed (items ++ x ∷ []) ≡ placed items ++ (offset_behind (end_of items) x, x.word.value) ∷ []
 placed_push items x =

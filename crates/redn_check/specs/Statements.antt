@@ -21,6 +21,26 @@ blocks (StmtKind-F.Loop body) = body ∷ []
 blocks (StmtKind-F.Repeat count body) = body ∷ []
 blocks _ = []
 
+-- whether it looks for a key in a table
+abbrev pub searches : {A B : Type 0} → StmtKind-F A B → Bool
+searches (StmtKind-F.Lookup to table offset key probes) = true
+searches (StmtKind-F.Walk to table offset key nodes) = true
+searches _ = false
+
+abbrev pub is_search : Stmt → Bool
+is_search s = searches (layer_of s)
+
+-- whether it is neither a reply nor has blocks
+abbrev pub acts_once : {A B : Type 0} → StmtKind-F A B → Bool
+acts_once (StmtKind-F.If wide left right met unmet) = false
+acts_once (StmtKind-F.Loop body) = false
+acts_once (StmtKind-F.Repeat count body) = false
+acts_once (StmtKind-F.Reply words) = false
+acts_once _ = true
+
+abbrev pub is_plain : Stmt → Bool
+is_plain s = acts_once (layer_of s)
+
 -- all that stands right in its blocks
 abbrev pub inner : {A B : Type 0} → StmtKind-F A B → List B
 inner layer = flat_map (λ body. body) (blocks layer)

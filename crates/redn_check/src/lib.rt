@@ -9,8 +9,6 @@ mod number;
 mod rules;
 mod scope;
 mod statements;
-#[cfg(test)]
-mod tests;
 mod weight;
 
 pub use fault::CheckFault;

@@ -1,12 +1,12 @@
 //! From an accepted file to its program.
 
-ghost use Rattle.std.specs.Prelude.{◌≡◌, ◌≤◌, ◌<◌, ◌^◌, [], map, length, fold, IfOk};
+ghost use Rattle.std.specs.Prelude.{◌≡◌, ◌≤◌, ◌<◌, ◌^◌, true, [], map, length, fold, IfOk};
 ghost use Rattle.std.specs.List.{flat_map};
 ghost use Rattle.redn_check.specs.Names as names;
 ghost use Rattle.redn_check.specs.Names.{Holds};
 ghost use Rattle.redn_check.specs.Numbering as numbering;
 ghost use Rattle.redn_check.specs.Rules as rule;
-ghost use Rattle.redn_check.specs.Statements.{with_earlier, with_inner, each_of};
+ghost use Rattle.redn_check.specs.Statements.{with_earlier, with_inner, each_of, is_search, is_plain};
 
 use crate::limits::offset_behind;
 use crate::names::{Names, declare_tables, declare_variables};
@@ -66,6 +66,81 @@ fn words(alloc: Global, numbers: &Numbers, operands: &[Operand]) -> Result<Items
     Ok(list)
 }
 
+/// A look for a key in a table.
+fn search(numbers: &Numbers, s: &Stmt) -> Kernel
+    requires kept { flat_map rule.number_faults (with_inner s.now) ≡ [] }
+    requires looks { is_search s.now ≡ true }
+    ensures { result ≡ numbering.kernel_of
+        (names.table_names numbers.now.scope.tables.now)
+        (names.variables numbers.now.scope.chain.now) s.now }
+{
+    match &s.kind {
+        StmtKind::Lookup {
+            to,
+            table,
+            offset,
+            key,
+            probes,
+        } => Kernel::Lookup {
+            to: variable_number(numbers, to),
+            table: table_number(numbers, table),
+            offset: word(numbers, offset),
+            key: word(numbers, key),
+            probes: probes.value as u8,
+        },
+        StmtKind::Walk {
+            to,
+            table,
+            offset,
+            key,
+            nodes,
+        } => Kernel::Walk {
+            to: variable_number(numbers, to),
+            table: table_number(numbers, table),
+            offset: word(numbers, offset),
+            key: word(numbers, key),
+            nodes: nodes.value as u16,
+        },
+        _ => unreachable!(),
+    }
+}
+
+/// A statement without blocks that isn't a reply.
+fn plain(numbers: &Numbers, s: &Stmt) -> Kernel
+    requires kept { flat_map rule.number_faults (with_inner s.now) ≡ [] }
+    requires plain { is_plain s.now ≡ true }
+    ensures { result ≡ numbering.kernel_of
+        (names.table_names numbers.now.scope.tables.now)
+        (names.variables numbers.now.scope.chain.now) s.now }
+{
+    match &s.kind {
+        StmtKind::Move { to, from } => Kernel::Move {
+            to: variable_number(numbers, to),
+            from: word(numbers, from),
+        },
+        StmtKind::Add { to, by } => Kernel::Add {
+            to: variable_number(numbers, to),
+            by: word(numbers, by),
+        },
+        StmtKind::Load { to, table, offset } => Kernel::Load {
+            to: variable_number(numbers, to),
+            table: table_number(numbers, table),
+            offset: word(numbers, offset),
+        },
+        StmtKind::Store {
+            table,
+            offset,
+            from,
+        } => Kernel::Store {
+            table: table_number(numbers, table),
+            offset: word(numbers, offset),
+            from: word(numbers, from),
+        },
+        StmtKind::Break => Kernel::Break,
+        _ => search(numbers, s),
+    }
+}
+
 #[cycle(number)]
 fn kernel(alloc: Global, numbers: &Numbers, s: &Stmt) -> Result<Kernel, Memory>
     requires { flat_map rule.number_faults (with_inner s.now) ≡ [] }
@@ -74,28 +149,6 @@ fn kernel(alloc: Global, numbers: &Numbers, s: &Stmt) -> Result<Kernel, Memory>
         (names.variables numbers.now.scope.chain.now) s.now) }
 {
     match &s.kind {
-        StmtKind::Move { to, from } => Ok(Kernel::Move {
-            to: variable_number(numbers, to),
-            from: word(numbers, from),
-        }),
-        StmtKind::Add { to, by } => Ok(Kernel::Add {
-            to: variable_number(numbers, to),
-            by: word(numbers, by),
-        }),
-        StmtKind::Load { to, table, offset } => Ok(Kernel::Load {
-            to: variable_number(numbers, to),
-            table: table_number(numbers, table),
-            offset: word(numbers, offset),
-        }),
-        StmtKind::Store {
-            table,
-            offset,
-            from,
-        } => Ok(Kernel::Store {
-            table: table_number(numbers, table),
-            offset: word(numbers, offset),
-            from: word(numbers, from),
-        }),
         StmtKind::If {
             wide,
             left,
@@ -124,37 +177,11 @@ fn kernel(alloc: Global, numbers: &Numbers, s: &Stmt) -> Result<Kernel, Memory>
                 body,
             })
         }
-        StmtKind::Break => Ok(Kernel::Break),
-        StmtKind::Lookup {
-            to,
-            table,
-            offset,
-            key,
-            probes,
-        } => Ok(Kernel::Lookup {
-            to: variable_number(numbers, to),
-            table: table_number(numbers, table),
-            offset: word(numbers, offset),
-            key: word(numbers, key),
-            probes: probes.value as u8,
-        }),
-        StmtKind::Walk {
-            to,
-            table,
-            offset,
-            key,
-            nodes,
-        } => Ok(Kernel::Walk {
-            to: variable_number(numbers, to),
-            table: table_number(numbers, table),
-            offset: word(numbers, offset),
-            key: word(numbers, key),
-            nodes: nodes.value as u16,
-        }),
         StmtKind::Reply { words: operands } => {
             let list = words(alloc, numbers, operands.as_slice())?;
             Ok(Kernel::Reply { words: list })
         }
+        _ => Ok(plain(numbers, s)),
     }
 }
 

@@ -15,26 +15,30 @@ use Rattle.redn_words.specs.declared.types.Request.{Request}
 use Rattle.redn_words.specs.Words.{bytes_at, word, number}
 use Rattle.redn_words.specs.Requests.{encoded}
 use Rattle.redn_words.specs.States.{State, start, mail_of}
-use Rattle.redn_words.specs.Runs.{AllPossible, reached, useful_for}
+use Rattle.redn_words.specs.Runs.{AllPossible}
 use Rattle.redn_words.proofs.Numbers.{number-bytes_at}
 use Rattle.redn_kernel.specs.declared.types.ChainInit.{ChainInit}
 use Rattle.redn_kernel.specs.declared.types.Kernel.{Kernel, fold-Kernel, fold_out-Kernel, map-Kernel}
 use Rattle.redn_kernel.specs.declared.types.Kernel.TheVariants.{Reply, outs-Reply}
 use Rattle.redn_kernel.specs.declared.types.Kernel.TheOpen.{Kernel-F}
 use Rattle.redn_kernel.specs.declared.types.Word.TheVariants.{Var}
-use Rattle.redn_kernel.specs.Source.{ChainState, Source, source_start, is_running, source_after, argument_words, steps_of}
+use Rattle.redn_kernel.specs.Source.{ChainState, Source, source_start, is_running}
+use Rattle.redn_words.specs.Arguments.{argument_words}
 use Rattle.redn_image.specs.Agreement.{Fits, Agrees, HoldsVariables, HasTableLength, variables_of, names_table, names_by}
-use Rattle.redn_image.specs.Faithful.{Faithful, Explains, AreMessages, CanGoOn, first_of}
+use Rattle.redn_image.specs.Faithful.{Faithful, Explains, AreMessages, CanGoOn, start_of}
 use Rattle.redn_compile.specs.FirstImage.{FirstChain, IsSmall, first_program, first_image, requests, slots_of, first_regions, vars_base, reply_base, message_base, region, wait_for}
-use Rattle.redn_compile.proofs.Slots.{slot_at, length-ring}
+use Rattle.redn_words.proofs.Slots.{slot_at, length-ring}
 use Rattle.redn_compile.proofs.FirstRing.{copy_at, signals-zero, length-requests}
-use Rattle.redn_compile.proofs.OneQueue.{Shape}
-use Rattle.redn_compile.proofs.Missing.{missing_le, get_empty}
+use Rattle.redn_compile.proofs.OneQueue.{Moment}
+use Rattle.redn_words.proofs.Copies.{get_empty}
+use Rattle.redn_words.proofs.Missing.{missing_le}
 use Rattle.redn_compile.proofs.Marks.{landed_past}
-use Rattle.redn_compile.proofs.FirstSource.{vars_at, length-vars_at, vars_taken, vars_left, length-argument_words, argument_word}
+use Rattle.redn_compile.proofs.FirstSource.{vars_at, length-vars_at, vars_taken, vars_left}
+use Rattle.redn_words.proofs.Arguments.{length-argument_words, argument_word}
 use Rattle.redn_compile.proofs.FirstStages as stages
 use Rattle.redn_compile.proofs.FirstStages.{Holds, made, budget}
-use Rattle.redn_compile.proofs.FirstRuns.{Runs, runs_from}
+use Rattle.redn_compile.proofs.FirstRuns.{Related, each_follows}
+use Rattle.redn_image.proofs.Simulation.{explains}
 use Rattle.redn_compile.proofs.FirstGoesOn.{goes_on, alone}
 
 zero_word : word (replicate 8 0) 0 ≡ 0
@@ -92,7 +96,7 @@ module _ (f : FirstChain) (small : IsSmall f) where
       unnamed (suc k) t c e names = cc
 
   -- memory agrees with the source
-  agrees : (message : Option (List ℕ)) (bytes : List ℕ) (s : Shape) (taken : ℕ) (ended : Bool) → Holds f small message bytes s taken ended → Agrees (first_regions f) s.memory (stages.source_of f small message bytes taken ended)
+  agrees : (message : Option (List ℕ)) (bytes : List ℕ) (s : Moment) (taken : ℕ) (ended : Bool) → Holds f small message bytes s taken ended → Agrees (first_regions f) s.memory (stages.source_of f small message bytes taken ended)
   agrees message bytes s taken ended h =
       record {
         variables = λ k c e. variables k c e;
@@ -119,12 +123,12 @@ module _ (f : FirstChain) (small : IsSmall f) where
       variables (suc k) c e = cc
 
   -- the first state
-  shape_of : Option (List ℕ) → Shape
-  shape_of message =
+  moment_of : Option (List ℕ) → Moment
+  moment_of message =
       record { memory = flat_map encoded (requests f) ++ replicate (16 * f.args + 8 * length f.words) 0; first = 0; marks = []; held = empty; counter = 0; mail = mail_of message; received = 0 }
 
-  first_is : (message : Option (List ℕ)) → first_of (first_image f) (message ∷ []) ≡ made f small (shape_of message)
-  unfolding start first_image shape_of
+  first_is : (message : Option (List ℕ)) → start_of (first_image f) (message ∷ []) ≡ made f small (moment_of message)
+  unfolding start first_image moment_of
   first_is message = refl
 
   source_is : (message : Option (List ℕ)) (bytes : List ℕ) → source_start (first_program f) (message ∷ []) ≡ stages.source_of f small message bytes 0 false
@@ -134,8 +138,8 @@ module _ (f : FirstChain) (small : IsSmall f) where
       let all : f.args - 0 ≡ f.args = omega arith in
       rw (vars, all) refl
 
-  holds_first : (message : Option (List ℕ)) (bytes : List ℕ) → stages.MailAt f small message bytes (shape_of message).memory (mail_of message) 0 → Holds f small message bytes (shape_of message) 0 false
-  unfolding shape_of
+  holds_first : (message : Option (List ℕ)) (bytes : List ℕ) → stages.MailAt f small message bytes (moment_of message).memory (mail_of message) 0 → Holds f small message bytes (moment_of message) 0 false
+  unfolding moment_of
   holds_first message bytes mail =
       record {
         within = omega arith;
@@ -157,44 +161,34 @@ module _ (f : FirstChain) (small : IsSmall f) where
   mail_at_most_one None bytes = omega arith
   mail_at_most_one (Some b) bytes = omega arith
 
-  explain : (message : Option (List ℕ)) (bytes : List ℕ) (long : message ≡ Some bytes → length bytes ≡ 8 * f.args) → stages.MailAt f small message bytes (shape_of message).memory (mail_of message) 0 → (acts : List Action) → AllPossible (made f small (shape_of message)) acts → (turns : List ℕ) × Explains (made f small (shape_of message)) acts (stages.source_of f small message bytes 0 false) turns
-  unfolding shape_of
-  explain message bytes long mail acts p =
-      let r = runs_from f small message bytes long acts (shape_of message) 0 false (holds_first message bytes mail) p in (
-        r.turns,
-        record {
-          runs = r.runs;
-          shows_events = r.showing;
-          agrees = subst (λ (t : State). Agrees (first_regions f) t.memory (source_after (stages.source_of f small message bytes 0 false) r.turns)) (sym r.reaches) (subst (λ (t : Source). Agrees (first_regions f) r.last.memory t) (sym r.source) (agrees message bytes r.last r.taken_last r.ended_last r.holds));
-          clean = r.clean;
-          few = λ c. few r c;
-          goes_on = λ c running. on r c running;
-        },
-      )
+  explain : (message : Option (List ℕ)) (bytes : List ℕ) (long : message ≡ Some bytes → length bytes ≡ 8 * f.args) → stages.MailAt f small message bytes (moment_of message).memory (mail_of message) 0 → (acts : List Action) → length acts < 2 ^ 62 → AllPossible (made f small (moment_of message)) acts → (turns : List ℕ) × Explains (made f small (moment_of message)) acts (stages.source_of f small message bytes 0 false) turns
+  unfolding moment_of
+  explain message bytes long mail acts short p =
+      let one = mail_at_most_one message bytes in
+      let args = small.args in
+      let words = small.words in
+      explains (Related f small message bytes long) (2 ^ 62) (made f small (moment_of message)) (stages.source_of f small message bytes 0 false) (λ c. 160) (λ c. omega arith)
+      (record { shape = moment_of message; taken = 0; ended = false; holds = holds_first message bytes mail; is = refl; source = refl; enough = omega (arith, missing_le 0 (slots_of f) empty, one) })
+      (each_follows f small message bytes long)
+      (λ n s z b r. subst (λ (t : State). Agrees (first_regions f) t.memory z) (sym r.is) (subst (λ (y : Source). Agrees (first_regions f) r.shape.memory y) (sym r.source) (agrees message bytes r.shape r.taken r.ended r.holds)))
+      (λ n s z b c r running. subst (λ (t : State). CanGoOn t c) (sym r.is) (on r.shape r.taken r.ended r.holds c (subst (λ (y : Source). is_running y c ≡ true) r.source running)))
+      acts (omega arith) p
     where
-      few : (r : Runs f small message bytes long (shape_of message) 0 false acts) (c : ℕ) → useful_for c (made f small (shape_of message)) acts ≤ 160 * (steps_of c r.turns + 1)
-      few r zero =
-          let args = small.args in
-          let words = small.words in
-          let one = mail_at_most_one message bytes in
-          omega (arith, r.bound, missing_le 0 (slots_of f) empty, one)
-      few r (suc c) = omega (arith, r.others c)
+      on : (s : Moment) (taken : ℕ) (ended : Bool) → Holds f small message bytes s taken ended → (c : ℕ) → is_running (stages.source_of f small message bytes taken ended) c ≡ true → CanGoOn (made f small s) c
+      on s taken ended h zero running = goes_on f small message bytes s taken ended h running
+      on s taken ended h (suc c) running = absurd (alone f small message bytes taken ended c running)
 
-      on : (r : Runs f small message bytes long (shape_of message) 0 false acts) (c : ℕ) → is_running (source_after (stages.source_of f small message bytes 0 false) r.turns) c ≡ true → CanGoOn (reached (made f small (shape_of message)) acts) c
-      on r zero running = subst (λ (t : State). CanGoOn t 0) (sym r.reaches) (goes_on f small message bytes r.last r.taken_last r.ended_last r.holds (subst (λ (t : Source). is_running t 0 ≡ true) r.source running))
-      on r (suc c) running = absurd (alone f small message bytes r.taken_last r.ended_last c (subst (λ (t : Source). is_running t (suc c) ≡ true) r.source running))
-
-  explained : (messages : List (Option (List ℕ))) → AreMessages (first_program f).chains messages → (acts : List Action) → length acts < 2 ^ 62 → AllPossible (first_of (first_image f) messages) acts → (turns : List ℕ) × Explains (first_of (first_image f) messages) acts (source_start (first_program f) messages) turns
+  explained : (messages : List (Option (List ℕ))) → AreMessages (first_program f).chains messages → (acts : List Action) → length acts < 2 ^ 62 → AllPossible (start_of (first_image f) messages) acts → (turns : List ℕ) × Explains (start_of (first_image f) messages) acts (source_start (first_program f) messages) turns
   explained [] are acts few p = absurd are
   explained (m ∷ n ∷ messages) are acts few p = absurd are.1
   explained (None ∷ []) are acts few p =
       let possible_there = subst (λ (t : State). AllPossible t acts) (first_is None) p in
-      let e = explain None [] (λ w. absurd (cc)) (stages.Silent refl) acts possible_there in
-      (e.0, subst (λ (t : State). Explains t acts (source_start (first_program f) (None ∷ [])) e.0) (sym (first_is None)) (subst (λ (t : Source). Explains (made f small (shape_of None)) acts t e.0) (sym (source_is None [])) e.1))
+      let e = explain None [] (λ w. absurd (cc)) (stages.Silent refl) acts few possible_there in
+      (e.0, subst (λ (t : State). Explains t acts (source_start (first_program f) (None ∷ [])) e.0) (sym (first_is None)) (subst (λ (t : Source). Explains (made f small (moment_of None)) acts t e.0) (sym (source_is None [])) e.1))
   explained (Some bytes ∷ []) are acts few p =
       let possible_there = subst (λ (t : State). AllPossible t acts) (first_is (Some bytes)) p in
-      let e = explain (Some bytes) bytes (λ w. are.0) (stages.Before refl) acts possible_there in
-      (e.0, subst (λ (t : State). Explains t acts (source_start (first_program f) (Some bytes ∷ [])) e.0) (sym (first_is (Some bytes))) (subst (λ (t : Source). Explains (made f small (shape_of (Some bytes))) acts t e.0) (sym (source_is (Some bytes) bytes)) e.1))
+      let e = explain (Some bytes) bytes (λ w. are.0.0) (stages.Before refl) acts few possible_there in
+      (e.0, subst (λ (t : State). Explains t acts (source_start (first_program f) (Some bytes ∷ [])) e.0) (sym (first_is (Some bytes))) (subst (λ (t : Source). Explains (made f small (moment_of (Some bytes))) acts t e.0) (sym (source_is (Some bytes) bytes)) e.1))
 
   pub first_faithful : Faithful (first_program f) (first_image f)
   first_faithful = record { fits = fits; explained = explained }

@@ -10,12 +10,12 @@ use Rattle.redn_words.specs.declared.types.Request.{Request}
 use Rattle.redn_words.specs.declared.types.Action.TheVariants.{Deliver, Fetch, Start, Land, Complete}
 use Rattle.redn_words.specs.Requests.{decoded, opcode_of, opcode_named}
 use Rattle.redn_words.specs.States.{Mail}
-use Rattle.redn_words.specs.Steps.{may_start, counter_of}
+use Rattle.redn_words.specs.Steps.{class_of, may_start, counter_of}
 use Rattle.redn_kernel.specs.Source.{is_running}
 use Rattle.redn_image.specs.Faithful.{CanGoOn}
 use Rattle.redn_compile.specs.FirstImage.{FirstChain, IsSmall, slots_of, first_regions, first_place, wait_for}
 use Rattle.redn_compile.proofs.FirstRing.{At, Message, Taking, Taken, Copying, Copied, Sending, place_of, copy_at, signals_taken, signals_copied, is_message, is_taking, is_taken, is_copying, is_copied, is_sending}
-use Rattle.redn_compile.proofs.OneQueue.{Shape, head_of}
+use Rattle.redn_compile.proofs.OneQueue.{Moment, head_of}
 use Rattle.redn_compile.proofs.OneQueue as queue
 use Rattle.redn_compile.proofs.Marks.{landed_before}
 use Rattle.redn_compile.proofs.FirstStages as stages
@@ -23,7 +23,7 @@ use Rattle.redn_compile.proofs.FirstStages.{Holds, made}
 
 module _ (f : FirstChain) (small : IsSmall f) (message : Option (List ℕ)) (bytes : List ℕ) where
   -- the head may start once its copy is held and nothing is in flight
-  may : (s : Shape) (taken : ℕ) (ended : Bool) (copy : List ℕ) → Holds f small message bytes s taken ended → s.marks ≡ [] → s.received ≡ 1 → copy ≡ copy_at f (head_of s) → At f (head_of s) → may_start (made f small s) (queue.queue_of (first_regions f) (first_place f) (slots_of f) (copy_at f) s) (decoded copy) (opcode_of (decoded copy)) ≡ true
+  may : (s : Moment) (taken : ℕ) (ended : Bool) (copy : List ℕ) → Holds f small message bytes s taken ended → s.marks ≡ [] → s.received ≡ 1 → copy ≡ copy_at f (head_of s) → At f (head_of s) → may_start (made f small s) (queue.queue_of (first_regions f) (first_place f) (slots_of f) (copy_at f) s) (decoded copy) (class_of (decoded copy)) ≡ true
   unfolding opcode_named counter_of
   may s taken ended copy h none one same (Message at) =
       let is : decoded copy ≡ wait_for 65536 1 = ap decoded same ∙ ap (λ (q : ℕ). decoded (copy_at f q)) at ∙ is_message f small in
@@ -42,15 +42,15 @@ module _ (f : FirstChain) (small : IsSmall f) (message : Option (List ℕ)) (byt
       let counted : s.counter ≡ f.args + 1 = h.counted ∙ signals_copied f small s.first (omega arith) in
       queue.may_wait (first_regions f) (first_place f) (slots_of f) (copy_at f) s copy s.counter (ap opcode_of is) there ∙ ap (λ (r : Request). nat_le r.second s.counter) is ∙ (let t : nat_le (f.args + 1) s.counter ≡ true = grind (arith, nat_tests) in t)
   may s taken ended copy h none one same (Taking i l at) =
-      queue.may_fly (first_regions f) (first_place f) (slots_of f) (copy_at f) s copy op.Write (ap opcode_of (ap decoded same ∙ is_taking f small (head_of s) i l at)) queue.Writes none (omega arith)
+      queue.may_fly (first_regions f) (first_place f) (slots_of f) (copy_at f) s copy op.Write (ap opcode_of (ap decoded same ∙ is_taking f small (head_of s) i l at)) refl none (omega arith)
   may s taken ended copy h none one same (Copying j l at) =
       let there : slice_get f.words j ≡ Some (slice_index f.words j) = slice_get-get_or f.words j 0 l in
-      queue.may_fly (first_regions f) (first_place f) (slots_of f) (copy_at f) s copy op.Write (ap opcode_of (ap decoded same ∙ is_copying f small (head_of s) j (slice_index f.words j) there at)) queue.Writes none (omega arith)
+      queue.may_fly (first_regions f) (first_place f) (slots_of f) (copy_at f) s copy op.Write (ap opcode_of (ap decoded same ∙ is_copying f small (head_of s) j (slice_index f.words j) there at)) refl none (omega arith)
   may s taken ended copy h none one same (Sending at) =
-      queue.may_fly (first_regions f) (first_place f) (slots_of f) (copy_at f) s copy op.Send (ap opcode_of (ap decoded same ∙ is_sending f small (head_of s) at)) queue.Sends none (omega arith)
+      queue.may_fly (first_regions f) (first_place f) (slots_of f) (copy_at f) s copy op.Send (ap opcode_of (ap decoded same ∙ is_sending f small (head_of s) at)) refl none (omega arith)
 
   -- with nothing in flight, the head is fetched or starts
-  moves_head : (s : Shape) (taken : ℕ) → Holds f small message bytes s taken false → s.marks ≡ [] → s.received ≡ 1 → CanGoOn (made f small s) 0
+  moves_head : (s : Moment) (taken : ℕ) → Holds f small message bytes s taken false → s.marks ≡ [] → s.received ≡ 1 → CanGoOn (made f small s) 0
   moves_head s taken h none one =
       elim (get s.held (head_of s)) as (λ o. get s.held (head_of s) ≡ o → CanGoOn (made f small s) 0) [
         | None ↦ λ e. record { action = Fetch 0 (head_of s); can = queue.can_fetch (first_regions f) (first_place f) (slots_of f) (copy_at f) s (head_of s) (omega arith) inside; useful = rw e refl; its = refl }
@@ -66,7 +66,7 @@ module _ (f : FirstChain) (small : IsSmall f) (message : Option (List ℕ)) (byt
                 absurd (false≢true (sym h.ended_is ∙ landed_before s.first s.marks (2 + 2 * f.args + length f.words) (omega arith)))
           ]
 
-  moves_on : (s : Shape) (taken : ℕ) → Holds f small message bytes s taken false → s.received ≡ 1 → CanGoOn (made f small s) 0
+  moves_on : (s : Moment) (taken : ℕ) → Holds f small message bytes s taken false → s.received ≡ 1 → CanGoOn (made f small s) 0
   moves_on s taken h one = by_marks s.marks refl
     where
       by_marks : (marks : List Bool) → s.marks ≡ marks → CanGoOn (made f small s) 0
@@ -84,7 +84,7 @@ module _ (f : FirstChain) (small : IsSmall f) (message : Option (List ℕ)) (byt
   no_message : (taken : ℕ) (ended : Bool) → message ≡ None → is_running (stages.source_of f small message bytes taken ended) 0 ≡ true → ⊥
   no_message taken ended e r = false≢true (ap (λ (m : Option (List ℕ)). is_running (stages.source_of f small m bytes taken ended) 0) (sym e) ∙ r)
 
-  pub goes_on : (s : Shape) (taken : ℕ) (ended : Bool) → Holds f small message bytes s taken ended → is_running (stages.source_of f small message bytes taken ended) 0 ≡ true → CanGoOn (made f small s) 0
+  pub goes_on : (s : Moment) (taken : ℕ) (ended : Bool) → Holds f small message bytes s taken ended → is_running (stages.source_of f small message bytes taken ended) 0 ≡ true → CanGoOn (made f small s) 0
   goes_on s taken true h r = absurd (not_running taken r)
   goes_on s taken false h r = by_mail s.mail s.received refl refl h.mail
     where

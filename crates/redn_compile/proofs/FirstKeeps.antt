@@ -7,7 +7,7 @@ use Rattle.std.proofs.lemmas.List.{length-replicate}
 use Rattle.redn_words.specs.Requests.{encoded}
 use Rattle.redn_image.specs.Rules.{Obeys, faults}
 use Rattle.redn_compile.specs.FirstImage.{FirstChain, IsSmall, first_image, requests, slots_of, vars_base, reply_base, message_base}
-use Rattle.redn_compile.proofs.Slots.{length-ring}
+use Rattle.redn_words.proofs.Slots.{length-ring}
 use Rattle.redn_compile.proofs.FirstRing.{length-requests}
 
 module _ (f : FirstChain) (small : IsSmall f) where

@@ -2,6 +2,7 @@
 use Rattle.std.proofs.Common.{◌≡◌, ℕ, ◌+◌, ◌*◌, ◌/◌, ◌%◌, ◌<◌, ◌≤◌, true, false, ◌||◌, ◌==◌, List, [], ◌∷◌, length, refl, arith}
 use Rattle.std.specs.Prelude.{nat_lt, nat_le}
 use Rattle.std.proofs.lemmas.Bool.Decides.{nat_tests}
+use Rattle.redn_words.specs.declared.limits.TheConstants.{GREATEST_LENGTH}
 use Rattle.redn_words.specs.declared.types.Origin.{Origin}
 use Rattle.redn_words.specs.declared.types.Obs.TheVariants as shows
 use Rattle.redn_words.specs.declared.types.Opcode.TheVariants as op
@@ -36,7 +37,7 @@ module _ (f : FirstChain) (index : ℕ) (memory : List ℕ) where
   pub lands_sending : 1 ≤ length f.words → length f.words ≤ 8 → landing (first_regions f) (origin index) memory (send_words (length f.words)) ≡ done (reply_base f + 0) (8 * length f.words) [] (shows.Reply 0 (length f.words) (reply_words (length f.words) (bytes_at memory (reply_base f + 0) (8 * length f.words))))
   unfolding lands access opcode_named
   lands_sending some few =
-      let long : (8 * length f.words == 0) || nat_lt 1048576 (8 * length f.words) ≡ false = grind (arith, nat_tests) in
+      let long : (8 * length f.words == 0) || nat_lt GREATEST_LENGTH (8 * length f.words) ≡ false = grind (arith, nat_tests) in
       let inside : nat_lt (8 * length f.words) (0 + 8 * length f.words) ≡ false = grind (arith, nat_tests) in
       let aligned : (8 * length f.words) % 8 ≡ 0 = omega arith in
       let number : (8 * length f.words) / 8 ≡ length f.words = omega arith in

@@ -18,15 +18,17 @@ use Rattle.redn_words.specs.Runs.{shown_then}
 use Rattle.redn_words.proofs.Numbers.{number-bytes_at}
 use Rattle.redn_words.proofs.Places.{bytes_at-same}
 use Rattle.redn_kernel.specs.declared.types.Word.TheVariants.{Var}
-use Rattle.redn_kernel.specs.Source.{source_step, is_running, message_words, value_of, eight, argument_words}
+use Rattle.redn_kernel.specs.Source.{source_step, is_running, message_words, value_of, eight}
+use Rattle.redn_words.specs.Arguments.{argument_words}
 use Rattle.redn_image.specs.Faithful.{IsClean}
 use Rattle.redn_compile.specs.FirstImage.{FirstChain, IsSmall, slots_of, first_regions, first_place, vars_base, reply_base, message_base, wait_for, take_argument, copy_word, send_words}
 use Rattle.redn_compile.proofs.FirstRing.{At, Message, Taking, Taken, Copying, Copied, Sending, place_of, copy_at, signals, signals-suc, is_message, is_taking, is_taken, is_copying, is_copied, is_sending}
-use Rattle.redn_compile.proofs.OneQueue.{Shape, head_of}
+use Rattle.redn_compile.proofs.OneQueue.{Moment, head_of}
 use Rattle.redn_compile.proofs.OneQueue as queue
 use Rattle.redn_compile.proofs.Marks.{landed, landed_before, landed_at, landed_past, landed_lands, landed_other, landed_completes}
 use Rattle.redn_compile.proofs.FirstLandings.{origin, lands_taking, lands_copying, lands_sending}
-use Rattle.redn_compile.proofs.FirstSource.{vars_at, vars_taken, length-argument_words, argument_word, takes_step, reply_step, runs_on, reply_words_are}
+use Rattle.redn_compile.proofs.FirstSource.{vars_at, vars_taken, takes_step, reply_step, runs_on, reply_words_are}
+use Rattle.redn_words.proofs.Arguments.{length-argument_words, argument_word}
 use Rattle.redn_compile.proofs.FirstStages as stages
 use Rattle.redn_compile.proofs.FirstStages.{Holds, Moves, quiet, made, budget, weight, Moving, marks_due, stays}
 
@@ -57,14 +59,14 @@ pub length-bytes_at : (b : List ℕ) (o n : ℕ) → o + n ≤ length b → leng
 length-bytes_at b o n h = length-take-le n (drop o b) (omega (arith, length-drop o b))
 
 module _ (f : FirstChain) (small : IsSmall f) (message : Option (List ℕ)) (bytes : List ℕ) where
-  abbrev Flying : Shape → ℕ → Type 0
+  abbrev Flying : Moment → ℕ → Type 0
   Flying s i = queue.Flying (first_regions f) (first_place f) (slots_of f) (copy_at f) s.first s.marks i
 
-  abbrev landing_of : Shape → ℕ → Landing
+  abbrev landing_of : Moment → ℕ → Landing
   landing_of s i = queue.landing_of (first_regions f) (first_place f) (slots_of f) (copy_at f) s i
 
   -- no WAIT stands between the first request in flight and another one there
-  no_wait_between : (s : Shape) (taken : ℕ) (ended : Bool) (i q c n : ℕ) → Holds f small message bytes s taken ended → Flying s i → suc q ≤ i → decoded (copy_at f q) ≡ wait_for c n → q < s.first
+  no_wait_between : (s : Moment) (taken : ℕ) (ended : Bool) (i q c n : ℕ) → Holds f small message bytes s taken ended → Flying s i → suc q ≤ i → decoded (copy_at f q) ≡ wait_for c n → q < s.first
   unfolding opcode_named
   no_wait_between s taken ended i q c n h fl below is =
       elim (cases_lt q s.first) as (λ t. q < s.first) [
@@ -85,25 +87,25 @@ module _ (f : FirstChain) (small : IsSmall f) (message : Option (List ℕ)) (byt
   one_less (true ∷ marks) (suc k) l e = omega (arith, one_less marks k (omega arith) e)
   one_less (false ∷ marks) (suc k) l e = omega (arith, one_less marks k (omega arith) e)
 
-  land_spends : (s : Shape) (memory : List ℕ) (i : ℕ) (fl : Flying s i) → weight f small message bytes (made f small s) (Land 0 i) + budget f small message bytes (queue.with_mark (first_regions f) (first_place f) (slots_of f) (copy_at f) s memory fl.nth) ≤ budget f small message bytes s
+  land_spends : (s : Moment) (memory : List ℕ) (i : ℕ) (fl : Flying s i) → weight f small message bytes (made f small s) (Land 0 i) + budget f small message bytes (queue.with_mark (first_regions f) (first_place f) (slots_of f) (copy_at f) s memory fl.nth) ≤ budget f small message bytes s
   land_spends s memory i fl =
       let marks : length (set s.marks fl.nth true) ≡ length s.marks = length-set s.marks fl.nth true in
       let heads : s.first + length (set s.marks fl.nth true) ≡ head_of s = omega (arith, marks) in
       rw heads (omega (arith, one_less s.marks fl.nth fl.within fl.unlanded))
 
-  landing_is : (s : Shape) (i : ℕ) (r : Request) (l : Landing) → decoded (copy_at f i) ≡ r → landing (first_regions f) (origin i) s.memory r ≡ l → landing_of s i ≡ l
+  landing_is : (s : Moment) (i : ℕ) (r : Request) (l : Landing) → decoded (copy_at f i) ≡ r → landing (first_regions f) (origin i) s.memory r ≡ l → landing_of s i ≡ l
   landing_is s i r l e is = ap (λ (q : Request). landing (first_regions f) (origin i) s.memory q) e ∙ is
 
   -- an allowed landing
-  land_leads : (s : Shape) (i : ℕ) (fl : Flying s i) (l : Landing) → landing_of s i ≡ l → l.allowed ≡ true → after (made f small s) (Land 0 i) ≡ made f small (queue.with_mark (first_regions f) (first_place f) (slots_of f) (copy_at f) s (changed s.memory l.writes) fl.nth)
+  land_leads : (s : Moment) (i : ℕ) (fl : Flying s i) (l : Landing) → landing_of s i ≡ l → l.allowed ≡ true → after (made f small s) (Land 0 i) ≡ made f small (queue.with_mark (first_regions f) (first_place f) (slots_of f) (copy_at f) s (changed s.memory l.writes) fl.nth)
   land_leads s i fl l e ok =
       queue.landed (first_regions f) (first_place f) (slots_of f) (copy_at f) s i fl (ap (λ (m : Landing). m.allowed) e ∙ ok) ∙ ap (λ (m : Landing). made f small (queue.with_mark (first_regions f) (first_place f) (slots_of f) (copy_at f) s (changed s.memory m.writes) fl.nth)) e
 
-  land_shows : (s : Shape) (i : ℕ) (fl : Flying s i) (l : Landing) → landing_of s i ≡ l → shown (made f small s) (Land 0 i) ≡ l.shown
+  land_shows : (s : Moment) (i : ℕ) (fl : Flying s i) (l : Landing) → landing_of s i ≡ l → shown (made f small s) (Land 0 i) ≡ l.shown
   land_shows s i fl l e = queue.land_shows (first_regions f) (first_place f) (slots_of f) (copy_at f) s i fl ∙ ap (λ (m : Landing). m.shown) e
 
   -- the message is there once anything is in flight
-  come_is : (s : Shape) (taken : ℕ) (ended : Bool) → Holds f small message bytes s taken ended → 1 ≤ head_of s → (message ≡ Some bytes) × (bytes_at s.memory (message_base f) (8 * f.args) ≡ bytes)
+  come_is : (s : Moment) (taken : ℕ) (ended : Bool) → Holds f small message bytes s taken ended → 1 ≤ head_of s → (message ≡ Some bytes) × (bytes_at s.memory (message_base f) (8 * f.args) ≡ bytes)
   come_is s taken ended h l = by_mail s.mail s.received h.mail (h.come l)
     where
       by_mail : (m : _) (r : ℕ) → stages.MailAt f small message bytes s.memory m r → r ≡ 1 → (message ≡ Some bytes) × (bytes_at s.memory (message_base f) (8 * f.args) ≡ bytes)
@@ -117,7 +119,7 @@ module _ (f : FirstChain) (small : IsSmall f) (message : Option (List ℕ)) (byt
   mail_stays before now m r (stages.Before some) e = stages.Before some
   mail_stays before now m r (stages.Come some there) e = stages.Come some (e ∙ there)
 
-  new_word : (s : Shape) (i : ℕ) → bytes_at s.memory (message_base f) (8 * f.args) ≡ bytes → i < f.args → bytes_at s.memory (message_base f + 8 * i) 8 ≡ bytes_at bytes (8 * i) 8
+  new_word : (s : Moment) (i : ℕ) → bytes_at s.memory (message_base f) (8 * f.args) ≡ bytes → i < f.args → bytes_at s.memory (message_base f + 8 * i) 8 ≡ bytes_at bytes (8 * i) 8
   new_word s i there l = sym (bytes_at-inside s.memory (message_base f) (8 * f.args) (8 * i) 8 (omega arith)) ∙ ap (λ (b : List ℕ). bytes_at b (8 * i) 8) there
 
   unlanded_is : (marks : List Bool) (k : ℕ) → k < length marks → get_or marks k true ≡ false → get_or marks k false ≡ false
@@ -130,7 +132,7 @@ module _ (f : FirstChain) (small : IsSmall f) (message : Option (List ℕ)) (byt
   its_wait (suc i) l = (0, (i + 1, is_taken f small (2 * suc i) i (omega arith) (omega arith)))
 
   -- the source makes one step, and shows what landed
-  speaks : (s : Shape) (taken : ℕ) (ended : Bool) (a : _) (o : Obs) (next : Shape) (taken_next : ℕ) (ended_next : Bool) → Holds f small message bytes next taken_next ended_next → after (made f small s) a ≡ made f small next → shown (made f small s) a ≡ o → is_running (stages.source_of f small message bytes taken ended) 0 ≡ true → source_step (stages.source_of f small message bytes taken ended) 0 ≡ (stages.source_of f small message bytes taken_next ended_next, o) → IsClean o → weight f small message bytes (made f small s) a + budget f small message bytes next ≤ budget f small message bytes s → Moves f small message bytes s taken ended a
+  speaks : (s : Moment) (taken : ℕ) (ended : Bool) (a : _) (o : Obs) (next : Moment) (taken_next : ℕ) (ended_next : Bool) → Holds f small message bytes next taken_next ended_next → after (made f small s) a ≡ made f small next → shown (made f small s) a ≡ o → is_running (stages.source_of f small message bytes taken ended) 0 ≡ true → source_step (stages.source_of f small message bytes taken ended) 0 ≡ (stages.source_of f small message bytes taken_next ended_next, o) → IsClean o → weight f small message bytes (made f small s) a + budget f small message bytes next ≤ budget f small message bytes s → Moves f small message bytes s taken ended a
   speaks s taken ended a o next taken_next ended_next holds is shows_o runs step clean spends =
       record {
         next = next;
@@ -147,13 +149,13 @@ module _ (f : FirstChain) (small : IsSmall f) (message : Option (List ℕ)) (byt
       }
 
   -- how many arguments are taken, where one is about to be
-  exactly : (s : Shape) (taken : ℕ) (ended : Bool) (k : ℕ) → Holds f small message bytes s taken ended → k ≤ f.args → (2 * k) ≤ s.first → taken ≤ k → taken ≡ k
+  exactly : (s : Moment) (taken : ℕ) (ended : Bool) (k : ℕ) → Holds f small message bytes s taken ended → k ≤ f.args → (2 * k) ≤ s.first → taken ≤ k → taken ≡ k
   exactly s taken ended zero h l before high = omega arith
   exactly s taken ended (suc k) h l before high =
       let last : nat_lt k taken ≡ true = sym (h.taken_are k (omega arith)) ∙ landed_before s.first s.marks (1 + 2 * k) (omega arith) in
       grind (arith, nat_tests)
 
-  record Takes (s : Shape) (taken : ℕ) (ended : Bool) (i p : ℕ) : Type 0 where
+  record Takes (s : Moment) (taken : ℕ) (ended : Bool) (i p : ℕ) : Type 0 where
     first_is : s.first ≡ p
     alone : length s.marks ≤ 1
     taken_is : taken ≡ i
@@ -161,7 +163,7 @@ module _ (f : FirstChain) (small : IsSmall f) (message : Option (List ℕ)) (byt
     message_is : message ≡ Some bytes
     there : bytes_at s.memory (message_base f) (8 * f.args) ≡ bytes
 
-  takes_there : (s : Shape) (taken i : ℕ) (ended : Bool) (p : ℕ) → Holds f small message bytes s taken ended → Flying s p → i < f.args → p ≡ 1 + 2 * i → Takes s taken ended i p
+  takes_there : (s : Moment) (taken i : ℕ) (ended : Bool) (p : ℕ) → Holds f small message bytes s taken ended → Flying s p → i < f.args → p ≡ 1 + 2 * i → Takes s taken ended i p
   unfolding opcode_named
   takes_there s taken i ended p h fl l at =
       let wait = its_wait i (omega arith) in
@@ -205,7 +207,7 @@ module _ (f : FirstChain) (small : IsSmall f) (message : Option (List ℕ)) (byt
   word_is : (new : List ℕ) (i : ℕ) → i < f.args → new ≡ bytes_at bytes (8 * i) 8 → word new 0 ≡ slice_index (argument_words bytes 0 f.args) i
   word_is new i l e = ap (λ (b : List ℕ). word b 0) e ∙ sym (number-bytes_at 8 bytes (8 * i)) ∙ sym (argument_word bytes 0 f.args i i l (omega arith))
 
-  take_holds : (s : Shape) (taken i : ℕ) (ended : Bool) (p : ℕ) (h : Holds f small message bytes s taken ended) (fl : Flying s p) → i < f.args → p ≡ 1 + 2 * i → Takes s taken ended i p → Holds f small message bytes (queue.with_mark (first_regions f) (first_place f) (slots_of f) (copy_at f) s (with_bytes_at s.memory (vars_base f + 8 * i) (bytes_at s.memory (message_base f + 8 * i) 8)) fl.nth) (i + 1) ended
+  take_holds : (s : Moment) (taken i : ℕ) (ended : Bool) (p : ℕ) (h : Holds f small message bytes s taken ended) (fl : Flying s p) → i < f.args → p ≡ 1 + 2 * i → Takes s taken ended i p → Holds f small message bytes (queue.with_mark (first_regions f) (first_place f) (slots_of f) (copy_at f) s (with_bytes_at s.memory (vars_base f + 8 * i) (bytes_at s.memory (message_base f + 8 * i) 8)) fl.nth) (i + 1) ended
   take_holds s taken i ended p h fl l at t =
       let new : List ℕ = bytes_at s.memory (message_base f + 8 * i) 8 in
       let its : new ≡ bytes_at bytes (8 * i) 8 = new_word s i t.there l in
@@ -265,31 +267,31 @@ module _ (f : FirstChain) (small : IsSmall f) (message : Option (List ℕ)) (byt
           let test : nat_lt k taken ≡ nat_lt k (i + 1) = (let a : nat_lt k taken ≡ false = grind (arith, nat_tests) in let b : nat_lt k (i + 1) ≡ false = grind (arith, nat_tests) in a ∙ sym b) in
           st.above (vars_base f + 8 * k) 8 (omega arith) ∙ h.variables k m ∙ ap (λ (b : Bool). if b then bytes_at bytes (8 * k) 8 else stages.no_word f small) test
 
-  take_lands : (s : Shape) (taken i : ℕ) (ended : Bool) (p : ℕ) → Holds f small message bytes s taken ended → Flying s p → i < f.args → p ≡ 1 + 2 * i → Moves f small message bytes s taken ended (Land 0 p)
+  take_lands : (s : Moment) (taken i : ℕ) (ended : Bool) (p : ℕ) → Holds f small message bytes s taken ended → Flying s p → i < f.args → p ≡ 1 + 2 * i → Moves f small message bytes s taken ended (Land 0 p)
   take_lands s taken i ended p h fl l at =
       let t = takes_there s taken i ended p h fl l at in
       let new : List ℕ = bytes_at s.memory (message_base f + 8 * i) 8 in
       let landing : Landing = done (message_base f + 8 * i) 8 (change (vars_base f + 8 * i) new ∷ []) (shows.Set 0 i (word new 0)) in
       let is : landing_of s p ≡ landing = landing_is s p (take_argument i) landing (is_taking f small p i l at) (lands_taking f p s.memory i l) in
-      let next : Shape = queue.with_mark (first_regions f) (first_place f) (slots_of f) (copy_at f) s (with_bytes_at s.memory (vars_base f + 8 * i) new) fl.nth in
+      let next : Moment = queue.with_mark (first_regions f) (first_place f) (slots_of f) (copy_at f) s (with_bytes_at s.memory (vars_base f + 8 * i) new) fl.nth in
       let source = take_source taken ended i t.taken_is t.ended_is t.message_is l in
       let shows_word : word new 0 ≡ slice_index (argument_words bytes 0 f.args) i = word_is new i l (new_word s i t.there l) in
       let step : source_step (stages.source_of f small message bytes taken ended) 0 ≡ (stages.source_of f small message bytes (i + 1) ended, shows.Set 0 i (word new 0)) = source.1 ∙ ap (λ (w : ℕ). (stages.source_of f small message bytes (i + 1) ended, shows.Set 0 i w)) (sym shows_word) in
       speaks s taken ended (Land 0 p) (shows.Set 0 i (word new 0)) next (i + 1) ended (take_holds s taken i ended p h fl l at t) (land_leads s p fl landing is refl) (land_shows s p fl landing is) source.0 step tt (land_spends s (with_bytes_at s.memory (vars_base f + 8 * i) new) p fl)
 
   -- all arguments are taken before a reply word is copied or sent
-  all_taken : (s : Shape) (taken : ℕ) (ended : Bool) (p : ℕ) → Holds f small message bytes s taken ended → Flying s p → 1 + 2 * f.args ≤ p → (2 * f.args < s.first) × (taken ≡ f.args)
+  all_taken : (s : Moment) (taken : ℕ) (ended : Bool) (p : ℕ) → Holds f small message bytes s taken ended → Flying s p → 1 + 2 * f.args ≤ p → (2 * f.args < s.first) × (taken ≡ f.args)
   all_taken s taken ended p h fl late =
       let wait = its_wait f.args (omega arith) in
       let before : 2 * f.args < s.first = no_wait_between s taken ended p (2 * f.args) wait.0 wait.1.0 h fl (omega arith) wait.1.1 in
       (before, exactly s taken ended f.args h (omega arith) (omega arith) h.taken_few)
 
-  variable_is : (s : Shape) (taken : ℕ) (ended : Bool) (x : ℕ) → Holds f small message bytes s taken ended → taken ≡ f.args → x < f.args → bytes_at s.memory (vars_base f + 8 * x) 8 ≡ bytes_at bytes (8 * x) 8
+  variable_is : (s : Moment) (taken : ℕ) (ended : Bool) (x : ℕ) → Holds f small message bytes s taken ended → taken ≡ f.args → x < f.args → bytes_at s.memory (vars_base f + 8 * x) 8 ≡ bytes_at bytes (8 * x) 8
   variable_is s taken ended x h e l =
       let test : nat_lt x taken ≡ true = grind (arith, nat_tests) in
       h.variables x l ∙ ap (λ (b : Bool). if b then bytes_at bytes (8 * x) 8 else stages.no_word f small) test
 
-  copy_holds : (s : Shape) (taken : ℕ) (ended : Bool) (p j x : ℕ) (h : Holds f small message bytes s taken ended) (fl : Flying s p) → slice_get f.words j ≡ Some x → p ≡ 1 + 2 * f.args + j → bytes_at s.memory (vars_base f + 8 * x) 8 ≡ bytes_at bytes (8 * x) 8 → Holds f small message bytes (queue.with_mark (first_regions f) (first_place f) (slots_of f) (copy_at f) s (with_bytes_at s.memory (reply_base f + 8 * j) (bytes_at s.memory (vars_base f + 8 * x) 8)) fl.nth) taken ended
+  copy_holds : (s : Moment) (taken : ℕ) (ended : Bool) (p j x : ℕ) (h : Holds f small message bytes s taken ended) (fl : Flying s p) → slice_get f.words j ≡ Some x → p ≡ 1 + 2 * f.args + j → bytes_at s.memory (vars_base f + 8 * x) 8 ≡ bytes_at bytes (8 * x) 8 → Holds f small message bytes (queue.with_mark (first_regions f) (first_place f) (slots_of f) (copy_at f) s (with_bytes_at s.memory (reply_base f + 8 * j) (bytes_at s.memory (vars_base f + 8 * x) 8)) fl.nth) taken ended
   copy_holds s taken ended p j x h fl there at its =
       let new : List ℕ = bytes_at s.memory (vars_base f + 8 * x) 8 in
       let size = h.size in
@@ -331,7 +333,7 @@ module _ (f : FirstChain) (small : IsSmall f) (message : Option (List ℕ)) (byt
           let fl_is = fl.is in
           st.above (reply_base f + 8 * k) 8 (omega arith) ∙ h.words k y w (sym (landed_other s.first s.marks (1 + 2 * f.args + k) fl.nth (λ e. omega (arith, e, fl_is, at, lt))) ∙ m)
 
-  copy_lands : (s : Shape) (taken : ℕ) (ended : Bool) (p j x : ℕ) → Holds f small message bytes s taken ended → Flying s p → slice_get f.words j ≡ Some x → p ≡ 1 + 2 * f.args + j → Moves f small message bytes s taken ended (Land 0 p)
+  copy_lands : (s : Moment) (taken : ℕ) (ended : Bool) (p j x : ℕ) → Holds f small message bytes s taken ended → Flying s p → slice_get f.words j ≡ Some x → p ≡ 1 + 2 * f.args + j → Moves f small message bytes s taken ended (Land 0 p)
   copy_lands s taken ended p j x h fl there at =
       let new : List ℕ = bytes_at s.memory (vars_base f + 8 * x) 8 in
       let named = small.named j x there in
@@ -362,7 +364,7 @@ module _ (f : FirstChain) (small : IsSmall f) (message : Option (List ℕ)) (byt
       rw (a, b) (runs_on f (message_words f.args message) (argument_words bytes 0 f.args) words long f.args, reply_step f (message_words f.args message) (argument_words bytes 0 f.args) words long)
 
   -- the bytes sent are those of the source's reply
-  sent_is : (s : Shape) → ((k x : ℕ) → slice_get f.words k ≡ Some x → bytes_at s.memory (reply_base f + 8 * k) 8 ≡ bytes_at bytes (8 * x) 8) → reply_words (length f.words) (bytes_at s.memory (reply_base f + 0) (8 * length f.words)) ≡ eight the_reply
+  sent_is : (s : Moment) → ((k x : ℕ) → slice_get f.words k ≡ Some x → bytes_at s.memory (reply_base f + 8 * k) 8 ≡ bytes_at bytes (8 * x) 8) → reply_words (length f.words) (bytes_at s.memory (reply_base f + 0) (8 * length f.words)) ≡ eight the_reply
   sent_is s there =
       let few = small.words in
       let long = length-the_reply in
@@ -377,7 +379,7 @@ module _ (f : FirstChain) (small : IsSmall f) (message : Option (List ℕ)) (byt
           let its : bytes_at (bytes_at s.memory (reply_base f + 0) (8 * length f.words)) (8 * k) 8 ≡ bytes_at bytes (8 * x) 8 = inside ∙ ap (λ (o : ℕ). bytes_at s.memory o 8) place ∙ there k x named in
           number-bytes_at 8 (bytes_at s.memory (reply_base f + 0) (8 * length f.words)) (8 * k) ∙ word_is (bytes_at (bytes_at s.memory (reply_base f + 0) (8 * length f.words)) (8 * k) 8) x (small.named k x named) its ∙ sym (reply_word k x named)
 
-  send_holds : (s : Shape) (taken : ℕ) (ended : Bool) (p : ℕ) (h : Holds f small message bytes s taken ended) (fl : Flying s p) → p ≡ 2 + 2 * f.args + length f.words → Holds f small message bytes (queue.with_mark (first_regions f) (first_place f) (slots_of f) (copy_at f) s s.memory fl.nth) taken true
+  send_holds : (s : Moment) (taken : ℕ) (ended : Bool) (p : ℕ) (h : Holds f small message bytes s taken ended) (fl : Flying s p) → p ≡ 2 + 2 * f.args + length f.words → Holds f small message bytes (queue.with_mark (first_regions f) (first_place f) (slots_of f) (copy_at f) s s.memory fl.nth) taken true
   send_holds s taken ended p h fl at =
       let marks : length (set s.marks fl.nth true) ≡ length s.marks = length-set s.marks fl.nth true in
       let heads : s.first + length (set s.marks fl.nth true) ≡ head_of s = omega (arith, marks) in
@@ -399,7 +401,7 @@ module _ (f : FirstChain) (small : IsSmall f) (message : Option (List ℕ)) (byt
         ended_is = landed_lands s.first s.marks (2 + 2 * f.args + length f.words) fl.nth fl.within (sym at ∙ fl_is);
       }
 
-  send_lands : (s : Shape) (taken : ℕ) (ended : Bool) (p : ℕ) → Holds f small message bytes s taken ended → Flying s p → p ≡ 2 + 2 * f.args + length f.words → Moves f small message bytes s taken ended (Land 0 p)
+  send_lands : (s : Moment) (taken : ℕ) (ended : Bool) (p : ℕ) → Holds f small message bytes s taken ended → Flying s p → p ≡ 2 + 2 * f.args + length f.words → Moves f small message bytes s taken ended (Land 0 p)
   send_lands s taken ended p h fl at =
       let some = small.some_word in
       let few = small.words in
@@ -416,7 +418,7 @@ module _ (f : FirstChain) (small : IsSmall f) (message : Option (List ℕ)) (byt
       speaks s taken ended (Land 0 p) (shows.Reply 0 (length f.words) (reply_words (length f.words) sent)) (queue.with_mark (first_regions f) (first_place f) (slots_of f) (copy_at f) s s.memory fl.nth) taken true (send_holds s taken ended p h fl at) (land_leads s p fl landing is refl) (land_shows s p fl landing is) source.0 (source.1 ∙ ap (λ (o : Obs). (stages.source_of f small message bytes taken true, o)) shows_reply) tt (land_spends s s.memory p fl)
 
   -- a request lands
-  pub land_moves : (s : Shape) (taken : ℕ) (ended : Bool) (p : ℕ) → Holds f small message bytes s taken ended → possible (made f small s) (Land 0 p) ≡ true → Moves f small message bytes s taken ended (Land 0 p)
+  pub land_moves : (s : Moment) (taken : ℕ) (ended : Bool) (p : ℕ) → Holds f small message bytes s taken ended → possible (made f small s) (Land 0 p) ≡ true → Moves f small message bytes s taken ended (Land 0 p)
   unfolding opcode_named
   land_moves s taken ended p h can =
       let fl = queue.lands (first_regions f) (first_place f) (slots_of f) (copy_at f) s p can in
@@ -434,7 +436,7 @@ module _ (f : FirstChain) (small : IsSmall f) (message : Option (List ℕ)) (byt
       by_place fl moving (Sending at) = send_lands s taken ended p h fl at
 
   -- the oldest request completes
-  pub complete_moves : (s : Shape) (taken : ℕ) (ended : Bool) → Holds f small message bytes s taken ended → possible (made f small s) (Complete 0) ≡ true → Moves f small message bytes s taken ended (Complete 0)
+  pub complete_moves : (s : Moment) (taken : ℕ) (ended : Bool) → Holds f small message bytes s taken ended → possible (made f small s) (Complete 0) ≡ true → Moves f small message bytes s taken ended (Complete 0)
   unfolding shown
   complete_moves s taken ended h can =
       let d = queue.completes (first_regions f) (first_place f) (slots_of f) (copy_at f) s can in

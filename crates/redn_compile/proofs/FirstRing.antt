@@ -8,7 +8,7 @@ use Rattle.redn_words.specs.declared.types.Request.{Request}
 use Rattle.redn_words.specs.Words.{bytes_at}
 use Rattle.redn_words.specs.Requests.{decoded, encoded}
 use Rattle.redn_compile.specs.FirstImage.{FirstChain, IsSmall, request, wait_for, take_argument, copy_word, send_words, takes, copies, requests, slots_of}
-use Rattle.redn_compile.proofs.Slots.{IsNarrow, decoded-encoded, slot_at}
+use Rattle.redn_words.proofs.Slots.{IsNarrow, decoded-encoded, slot_at}
 
 pub slice_get-left : {X : Type 0} (xs ys : List X) (k : ℕ) (x : X) → slice_get xs k ≡ Some x → slice_get (xs ++ ys) k ≡ Some x
 slice_get-left [] ys k x e = cc

@@ -8,7 +8,8 @@ use Rattle.redn_words.specs.Words.{word}
 use Rattle.redn_words.specs.Landings.{reply_words}
 use Rattle.redn_kernel.specs.declared.types.Word.TheVariants.{Var}
 use Rattle.redn_kernel.specs.declared.types.Kernel.TheVariants.{Reply, outs-Reply}
-use Rattle.redn_kernel.specs.Source.{Source, Do, TakeArgument, source_step, is_running, take_arguments, argument_words, value_of, eight, statement_does, item_does}
+use Rattle.redn_kernel.specs.Source.{Source, Do, TakeArgument, source_step, is_running, take_arguments, value_of, eight, statement_does, item_does}
+use Rattle.redn_words.specs.Arguments.{argument_words}
 use Rattle.redn_compile.specs.FirstImage.{FirstChain}
 
 -- the variables once so many arguments are taken
@@ -46,15 +47,6 @@ vars_left (suc t) zero (w ∷ words) h = absurd (omega arith)
 vars_left (suc t) (suc x) (w ∷ words) h = vars_left t x words (omega arith)
 
 -- the words of a message
-pub length-argument_words : (bytes : List ℕ) (i n : ℕ) → length (argument_words bytes i n) ≡ n
-length-argument_words bytes i zero = refl
-length-argument_words bytes i (suc n) = ap suc (length-argument_words bytes (i + 1) n)
-
-pub argument_word : (bytes : List ℕ) (i n k j : ℕ) → k < n → j ≡ i + k → slice_index (argument_words bytes i n) k ≡ word bytes (8 * j)
-argument_word bytes i zero k j h e = absurd (omega arith)
-argument_word bytes i (suc n) zero j h e = ap (λ (m : ℕ). word bytes (8 * m)) (omega (arith, e))
-argument_word bytes i (suc n) (suc k) j h e = argument_word bytes (i + 1) n k j (omega arith) (omega arith)
-
 -- eight words, of which the first ones are these
 fills : (g : ℕ → ℕ) (a n k : ℕ) (vs : List ℕ) → n ≤ k → ((i : ℕ) → i < length vs → g (a + i) ≡ slice_index vs i) → ((i : ℕ) → length vs ≤ i → g (a + i) ≡ 0) → map g (range_with_len a n) ≡ take n (vs ++ replicate k 0)
 fills g a zero k vs h inside past = refl

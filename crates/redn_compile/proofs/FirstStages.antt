@@ -16,18 +16,20 @@ use Rattle.redn_words.specs.Runs.{shown_then, is_for}
 use Rattle.redn_words.proofs.Places.{length-with_bytes_at, bytes_at-same, bytes_at-other}
 use Rattle.std.proofs.Math.Nat.{mod-eq_of_lt}
 use Rattle.std.proofs.lemmas.Option.{slice_get_within}
-use Rattle.redn_kernel.specs.Source.{Source, EachRuns, source_after, events, argument_words, message_words}
+use Rattle.redn_kernel.specs.Source.{Source, EachRuns, source_after, events, message_words}
+use Rattle.redn_words.specs.Arguments.{argument_words}
 use Rattle.redn_image.specs.Faithful.{IsClean}
 use Rattle.redn_compile.specs.FirstImage.{FirstChain, IsSmall, slots_of, first_regions, first_place, vars_base, reply_base, message_base}
 use Rattle.redn_compile.proofs.FirstRing.{copy_at, signals}
-use Rattle.redn_compile.proofs.OneQueue.{Shape, head_of}
+use Rattle.redn_compile.proofs.OneQueue.{Moment, head_of}
 use Rattle.redn_compile.proofs.OneQueue as queue
 use Rattle.redn_compile.proofs.Marks.{landed}
-use Rattle.redn_compile.proofs.Missing.{missing, missing_insert, missing_insert_new, get_insert}
+use Rattle.redn_words.proofs.Copies.{get_insert}
+use Rattle.redn_words.proofs.Missing.{missing, missing_insert, missing_insert_new}
 use Rattle.redn_compile.proofs.FirstSource.{source_at}
 
 module _ (f : FirstChain) (small : IsSmall f) where
-  abbrev pub made : Shape → State
+  abbrev pub made : Moment → State
   made s = queue.made (first_regions f) (first_place f) (slots_of f) (copy_at f) s
 
   -- the size of memory
@@ -50,7 +52,7 @@ module _ (f : FirstChain) (small : IsSmall f) where
       Come : message ≡ Some bytes → bytes_at memory (message_base f) (8 * f.args) ≡ bytes → MailAt memory Delivered 1
 
     -- a state that can be reached, where so many arguments are taken, and the reply is sent or not
-    pub record Holds (s : Shape) (taken : ℕ) (ended : Bool) : Type 0 where
+    pub record Holds (s : Moment) (taken : ℕ) (ended : Bool) : Type 0 where
       pub within : head_of s ≤ slots_of f
       pub size : length s.memory ≡ size_of
       pub ring : (p : ℕ) → p < slots_of f → bytes_at s.memory (64 * p) 64 ≡ copy_at f p
@@ -79,15 +81,15 @@ module _ (f : FirstChain) (small : IsSmall f) where
     marks_due (true ∷ marks) = 1 + marks_due marks
     marks_due (false ∷ marks) = 2 + marks_due marks
 
-    abbrev pub budget : Shape → ℕ
+    abbrev pub budget : Moment → ℕ
     budget s = mail_due s.mail + (missing (head_of s) s.held (slots_of f) + (3 * (slots_of f - head_of s) + marks_due s.marks))
 
     abbrev pub weight : State → Action → ℕ
     weight s a = if is_useful s a && is_for 0 (chain_of s a) then 1 else 0
 
     -- an action leads to such a state, and the source follows
-    pub record Moves (s : Shape) (taken : ℕ) (ended : Bool) (a : Action) : Type 0 where
-      pub next : Shape
+    pub record Moves (s : Moment) (taken : ℕ) (ended : Bool) (a : Action) : Type 0 where
+      pub next : Moment
       pub taken_next : ℕ
       pub ended_next : Bool
       pub holds : Holds next taken_next ended_next
@@ -100,7 +102,7 @@ module _ (f : FirstChain) (small : IsSmall f) where
       pub spends : weight (made s) a + budget next ≤ budget s
 
     -- an action that shows nothing
-    pub quiet : (s : Shape) (taken : ℕ) (ended : Bool) (a : Action) (next : Shape) → Holds next taken ended → after (made s) a ≡ made next → shown (made s) a ≡ shows.Nothing → weight (made s) a + budget next ≤ budget s → Moves s taken ended a
+    pub quiet : (s : Moment) (taken : ℕ) (ended : Bool) (a : Action) (next : Moment) → Holds next taken ended → after (made s) a ≡ made next → shown (made s) a ≡ shows.Nothing → weight (made s) a + budget next ≤ budget s → Moves s taken ended a
     quiet s taken ended a next holds is nothing spends =
         record {
           next = next;
@@ -137,7 +139,7 @@ module _ (f : FirstChain) (small : IsSmall f) where
     mail_pending memory m r b (Before some) e = let same : bytes ≡ b = cc in (some, sym same, refl)
     mail_pending memory m r b (Come some there) e = cc
 
-    pub deliver_moves : (s : Shape) (taken : ℕ) (ended : Bool) → (message ≡ Some bytes → length bytes ≡ 8 * f.args) → Holds s taken ended → possible (made s) (Deliver 0) ≡ true → Moves s taken ended (Deliver 0)
+    pub deliver_moves : (s : Moment) (taken : ℕ) (ended : Bool) → (message ≡ Some bytes → length bytes ≡ 8 * f.args) → Holds s taken ended → possible (made s) (Deliver 0) ≡ true → Moves s taken ended (Deliver 0)
     unfolding shown
     deliver_moves s taken ended long h p =
         let d = queue.delivers (first_regions f) (first_place f) (slots_of f) (copy_at f) s p in
@@ -149,7 +151,7 @@ module _ (f : FirstChain) (small : IsSmall f) where
         let memory : List ℕ = with_bytes_at s.memory (message_base f) d.0 in
         let there : bytes_at memory (message_base f) (8 * f.args) ≡ bytes = ap (λ (n : ℕ). bytes_at memory (message_base f) n) (sym len) ∙ bytes_at-same s.memory d.0 (message_base f) fits ∙ m.1 in
         let one : s.received + 1 ≡ 1 = omega (arith, m.2) in
-        let next : Shape = record s { memory = memory; mail = Delivered; received = s.received + 1 } in
+        let next : Moment = record s { memory = memory; mail = Delivered; received = s.received + 1 } in
         let mail_is : mail_due s.mail ≡ 1 = ap mail_due d.1 in
         quiet s taken ended (Deliver 0) next record {
           within = h.within;
@@ -168,7 +170,7 @@ module _ (f : FirstChain) (small : IsSmall f) where
         } (queue.delivered (first_regions f) (first_place f) (slots_of f) (copy_at f) s d.0 d.1) refl (omega (arith, mail_is))
 
     -- a slot is fetched
-    held_insert : (s : Shape) (taken : ℕ) (ended : Bool) (i : ℕ) → Holds s taken ended → head_of s ≤ i → i < slots_of f → (p : ℕ) (copy : List ℕ) → get (insert s.held i (copy_at f i)) p ≡ Some copy → (head_of s ≤ p) × (p < slots_of f) × (copy ≡ copy_at f p)
+    held_insert : (s : Moment) (taken : ℕ) (ended : Bool) (i : ℕ) → Holds s taken ended → head_of s ≤ i → i < slots_of f → (p : ℕ) (copy : List ℕ) → get (insert s.held i (copy_at f i)) p ≡ Some copy → (head_of s ≤ p) × (p < slots_of f) × (copy ≡ copy_at f p)
     held_insert s taken ended i h le lt p copy e = by_test (eqb p i) refl (sym (get_insert s.held i (copy_at f i) p) ∙ e)
       where
         by_test : (b : Bool) → eqb p i ≡ b → cond b (Some (copy_at f i)) (get s.held p) ≡ Some copy → (head_of s ≤ p) × (p < slots_of f) × (copy ≡ copy_at f p)
@@ -178,14 +180,14 @@ module _ (f : FirstChain) (small : IsSmall f) where
             (omega arith, omega arith, is ∙ ap (copy_at f) (sym at))
         by_test false t q = h.held p copy q
 
-    fetch_spends : (s : Shape) (i : ℕ) → head_of s ≤ i → i < slots_of f → weight (made s) (Fetch 0 i) + budget (record s { held = insert s.held i (copy_at f i) }) ≤ budget s
+    fetch_spends : (s : Moment) (i : ℕ) → head_of s ≤ i → i < slots_of f → weight (made s) (Fetch 0 i) + budget (record s { held = insert s.held i (copy_at f i) }) ≤ budget s
     fetch_spends s i le lt =
         elim (get s.held i) as (λ o. get s.held i ≡ o → (if is_none o && true then 1 else 0) + budget (record s { held = insert s.held i (copy_at f i) }) ≤ budget s) [
           | None ↦ λ e. let m = missing_insert_new (head_of s) i (slots_of f) s.held (copy_at f i) e le lt in omega (arith, m)
           | Some c ↦ λ e. let m = missing_insert (head_of s) i (slots_of f) s.held (copy_at f i) in omega (arith, m)
         ] refl
 
-    pub fetch_moves : (s : Shape) (taken : ℕ) (ended : Bool) (i : ℕ) → Holds s taken ended → possible (made s) (Fetch 0 i) ≡ true → Moves s taken ended (Fetch 0 i)
+    pub fetch_moves : (s : Moment) (taken : ℕ) (ended : Bool) (i : ℕ) → Holds s taken ended → possible (made s) (Fetch 0 i) ≡ true → Moves s taken ended (Fetch 0 i)
     unfolding shown
     fetch_moves s taken ended i h p =
         let d = queue.fetches (first_regions f) (first_place f) (slots_of f) (copy_at f) s i p in

@@ -6,6 +6,7 @@ use Rattle.std.proofs.lemmas.Option.{slice_get_within, slice_get-get_or}
 use Rattle.std.specs.FinMap.{get, remove}
 use Rattle.redn_words.specs.declared.types.Opcode.{Opcode}
 use Rattle.redn_words.specs.declared.types.Opcode.TheVariants as op
+use Rattle.redn_words.specs.declared.types.Class.TheVariants as ask
 use Rattle.redn_words.specs.declared.types.Action.TheVariants.{Start}
 use Rattle.redn_words.specs.declared.types.Request.{Request}
 use Rattle.std.proofs.lemmas.Bool.{cases_lt}
@@ -13,18 +14,19 @@ use Rattle.std.proofs.Math.Nat.{mod-eq_of_lt}
 use Rattle.redn_words.specs.Words.{bytes_at}
 use Rattle.redn_words.specs.Requests.{decoded, opcode_of, opcode_named}
 use Rattle.redn_words.specs.States.{slot_of}
-use Rattle.redn_words.specs.Steps.{possible, may_start, counter_of}
+use Rattle.redn_words.specs.Steps.{possible, class_by, class_of, may_start, counter_of}
 use Rattle.redn_compile.specs.FirstImage.{FirstChain, IsSmall, slots_of, first_regions, first_place, wait_for}
 use Rattle.redn_compile.proofs.FirstRing.{At, Message, Taking, Taken, Copying, Copied, Sending, place_of, copy_at, signals, signals-suc, signals_mono, signals_taking, signals_copying, is_message, is_taking, is_taken, is_copying, is_copied, is_sending}
-use Rattle.redn_compile.proofs.OneQueue.{Shape, head_of}
+use Rattle.redn_compile.proofs.OneQueue.{Moment, head_of}
 use Rattle.redn_compile.proofs.OneQueue as queue
 use Rattle.redn_compile.proofs.Marks.{landed, landed_flies, landed_passes}
-use Rattle.redn_compile.proofs.Missing.{missing, missing_remove, get_remove}
+use Rattle.redn_words.proofs.Copies.{get_remove}
+use Rattle.redn_words.proofs.Missing.{missing, missing_remove}
 use Rattle.redn_compile.proofs.FirstStages as stages
 use Rattle.redn_compile.proofs.FirstStages.{Holds, Moves, quiet, made, budget, weight, Moving, marks_due}
 
 module _ (f : FirstChain) (small : IsSmall f) (message : Option (List ℕ)) (bytes : List ℕ) where
-  held_remove : (s : Shape) (taken : ℕ) (ended : Bool) → Holds f small message bytes s taken ended → (p : ℕ) (copy : List ℕ) → get (remove s.held (head_of s)) p ≡ Some copy → (head_of s + 1 ≤ p) × (p < slots_of f) × (copy ≡ copy_at f p)
+  held_remove : (s : Moment) (taken : ℕ) (ended : Bool) → Holds f small message bytes s taken ended → (p : ℕ) (copy : List ℕ) → get (remove s.held (head_of s)) p ≡ Some copy → (head_of s + 1 ≤ p) × (p < slots_of f) × (copy ≡ copy_at f p)
   held_remove s taken ended h p copy e = by_test (eqb p (head_of s)) refl (sym (get_remove s.held (head_of s) p) ∙ e)
     where
       by_test : (b : Bool) → eqb p (head_of s) ≡ b → cond b None (get s.held p) ≡ Some copy → (head_of s + 1 ≤ p) × (p < slots_of f) × (copy ≡ copy_at f p)
@@ -35,15 +37,15 @@ module _ (f : FirstChain) (small : IsSmall f) (message : Option (List ℕ)) (byt
           (omega (arith, old.0, ne), old.1, old.2)
 
   -- the slot of head, where its copy is held
-  slot_is : (s : Shape) (taken : ℕ) (ended : Bool) (copy : List ℕ) → Holds f small message bytes s taken ended → head_of s < slots_of f → copy ≡ copy_at f (head_of s) → slot_of s.memory (queue.row (first_regions f) (first_place f) (slots_of f) (copy_at f)) (head_of s) ≡ copy
+  slot_is : (s : Moment) (taken : ℕ) (ended : Bool) (copy : List ℕ) → Holds f small message bytes s taken ended → head_of s < slots_of f → copy ≡ copy_at f (head_of s) → slot_of s.memory (queue.row (first_regions f) (first_place f) (slots_of f) (copy_at f)) (head_of s) ≡ copy
   slot_is s taken ended copy h lt same =
       let turn : 0 + 64 * (head_of s % slots_of f) ≡ 64 * head_of s = omega (arith, mod-eq_of_lt {n = head_of s} {m = slots_of f} lt) in
       ap (λ (o : ℕ). bytes_at s.memory o 64) turn ∙ h.ring (head_of s) lt ∙ sym same
 
   -- a request goes into flight
-  flies : (s : Shape) (taken : ℕ) (ended : Bool) (copy : List ℕ) (o : Opcode) → Holds f small message bytes s taken ended → get s.held (head_of s) ≡ Some copy → copy ≡ copy_at f (head_of s) → head_of s < slots_of f → opcode_of (decoded copy) ≡ o → queue.Flies (first_regions f) (first_place f) (slots_of f) (copy_at f) o → (1 ≤ head_of s) → Moves f small message bytes s taken ended (Start 0)
+  flies : (s : Moment) (taken : ℕ) (ended : Bool) (copy : List ℕ) (o : Opcode) → Holds f small message bytes s taken ended → get s.held (head_of s) ≡ Some copy → copy ≡ copy_at f (head_of s) → head_of s < slots_of f → opcode_of (decoded copy) ≡ o → queue.Flies (first_regions f) (first_place f) (slots_of f) (copy_at f) o → (1 ≤ head_of s) → Moves f small message bytes s taken ended (Start 0)
   flies s taken ended copy o h e same lt is fl late =
-      let next : Shape = queue.with_flight (first_regions f) (first_place f) (slots_of f) (copy_at f) s in
+      let next : Moment = queue.with_flight (first_regions f) (first_place f) (slots_of f) (copy_at f) s in
       let marks : length next.marks ≡ length s.marks + 1 = length-append s.marks (false ∷ []) in
       let within = h.within in
       quiet f small message bytes s taken ended (Start 0) next record {
@@ -63,15 +65,7 @@ module _ (f : FirstChain) (small : IsSmall f) (message : Option (List ℕ)) (byt
       } (queue.flies (first_regions f) (first_place f) (slots_of f) (copy_at f) s copy o e same is fl) (queue.flies_quietly (first_regions f) (first_place f) (slots_of f) (copy_at f) s copy o e (slot_is s taken ended copy h lt same) is fl) spends
     where
       not_wait : (o : Opcode) → queue.Flies (first_regions f) (first_place f) (slots_of f) (copy_at f) o → o ≢ op.Wait
-      not_wait op.Write l w = cc
-      not_wait op.Send l w = cc
-      not_wait op.Noop l w = elim l [ ]
-      not_wait op.Read l w = elim l [ ]
-      not_wait op.Cas l w = elim l [ ]
-      not_wait op.Add l w = elim l [ ]
-      not_wait op.Wait l w = elim l [ ]
-      not_wait op.Enable l w = elim l [ ]
-      not_wait (op.Undefined n) l w = elim l [ ]
+      not_wait o l w = let never : class_by op.Wait ≡ ask.Flies = ap class_by (sym w) ∙ l in cc
 
       moving : (k : ℕ) → k < length (s.marks ++ false ∷ []) → Moving f small (s.first + k)
       moving k l =
@@ -101,9 +95,9 @@ module _ (f : FirstChain) (small : IsSmall f) (message : Option (List ℕ)) (byt
   unfolding opcode_named
   op_wait r c n e = ap opcode_of e
 
-  passed : (s : Shape) (taken : ℕ) (ended : Bool) (copy : List ℕ) (value c n : ℕ) → Holds f small message bytes s taken ended → get s.held (head_of s) ≡ Some copy → copy ≡ copy_at f (head_of s) → head_of s < slots_of f → decoded copy ≡ wait_for c n → counter_of (made f small s) 0 c ≡ Some value → s.marks ≡ [] → s.received ≡ 1 → ((i : ℕ) → i < f.args → 1 + 2 * i ≢ s.first) → ((j : ℕ) → j < length f.words → 1 + 2 * f.args + j ≢ s.first) → (2 + 2 * f.args + length f.words ≢ s.first) → Moves f small message bytes s taken ended (Start 0)
+  passed : (s : Moment) (taken : ℕ) (ended : Bool) (copy : List ℕ) (value c n : ℕ) → Holds f small message bytes s taken ended → get s.held (head_of s) ≡ Some copy → copy ≡ copy_at f (head_of s) → head_of s < slots_of f → decoded copy ≡ wait_for c n → counter_of (made f small s) 0 c ≡ Some value → s.marks ≡ [] → s.received ≡ 1 → ((i : ℕ) → i < f.args → 1 + 2 * i ≢ s.first) → ((j : ℕ) → j < length f.words → 1 + 2 * f.args + j ≢ s.first) → (2 + 2 * f.args + length f.words ≢ s.first) → Moves f small message bytes s taken ended (Start 0)
   passed s taken ended copy value c n h e same lt is there none here no_taking no_copying no_sending =
-      let next : Shape = queue.past_wait (first_regions f) (first_place f) (slots_of f) (copy_at f) s in
+      let next : Moment = queue.past_wait (first_regions f) (first_place f) (slots_of f) (copy_at f) s in
       let wait : opcode_of (decoded copy) ≡ op.Wait = op_wait (decoded copy) c n is in
       let counter : counter_of (made f small s) 0 (decoded copy).first ≡ Some value = ap (λ (r : Request). counter_of (made f small s) 0 r.first) is ∙ there in
       let empty : length s.marks ≡ 0 = ap length none in
@@ -133,18 +127,18 @@ module _ (f : FirstChain) (small : IsSmall f) (message : Option (List ℕ)) (byt
       } (queue.passes (first_regions f) (first_place f) (slots_of f) (copy_at f) s copy value e wait counter none) (queue.passes_quietly (first_regions f) (first_place f) (slots_of f) (copy_at f) s copy value e (slot_is s taken ended copy h lt same) wait counter) (omega (arith, fewer_next))
 
   -- what a WAIT that starts has waited for
-  waited : (s : Shape) (copy : List ℕ) (value c n : ℕ) → decoded copy ≡ wait_for c n → counter_of (made f small s) 0 c ≡ Some value → may_start (made f small s) (queue.queue_of (first_regions f) (first_place f) (slots_of f) (copy_at f) s) (decoded copy) (opcode_of (decoded copy)) ≡ true → n ≤ value
+  waited : (s : Moment) (copy : List ℕ) (value c n : ℕ) → decoded copy ≡ wait_for c n → counter_of (made f small s) 0 c ≡ Some value → may_start (made f small s) (queue.queue_of (first_regions f) (first_place f) (slots_of f) (copy_at f) s) (decoded copy) (class_of (decoded copy)) ≡ true → n ≤ value
   waited s copy value c n is there may =
       let counter : counter_of (made f small s) 0 (decoded copy).first ≡ Some value = ap (λ (r : Request). counter_of (made f small s) 0 r.first) is ∙ there in
       let test : nat_le (decoded copy).second value ≡ true = sym (queue.may_wait (first_regions f) (first_place f) (slots_of f) (copy_at f) s copy value (op_wait (decoded copy) c n is) counter) ∙ may in
       let test_n : nat_le n value ≡ true = ap (λ (r : Request). nat_le r.second value) (sym is) ∙ test in
       grind (arith, nat_tests)
 
-  own_counter : (s : Shape) → counter_of (made f small s) 0 0 ≡ Some s.counter
+  own_counter : (s : Moment) → counter_of (made f small s) 0 0 ≡ Some s.counter
   unfolding counter_of
   own_counter s = refl
 
-  messages : (s : Shape) → counter_of (made f small s) 0 65536 ≡ Some s.received
+  messages : (s : Moment) → counter_of (made f small s) 0 65536 ≡ Some s.received
   unfolding counter_of
   messages s = refl
 
@@ -154,7 +148,7 @@ module _ (f : FirstChain) (small : IsSmall f) (message : Option (List ℕ)) (byt
   received_one memory m r (stages.Come some there) l = refl
 
   -- where a WAIT has seen all requests before it complete, nothing is in flight
-  nothing_flies : (s : Shape) (taken : ℕ) (ended : Bool) (q n : ℕ) → Holds f small message bytes s taken ended → head_of s ≡ suc q → signals f small q < n → n ≤ s.counter → s.marks ≡ []
+  nothing_flies : (s : Moment) (taken : ℕ) (ended : Bool) (q n : ℕ) → Holds f small message bytes s taken ended → head_of s ≡ suc q → signals f small q < n → n ≤ s.counter → s.marks ≡ []
   nothing_flies s taken ended q n h at few came = by_marks s.marks refl
     where
       by_marks : (marks : List Bool) → s.marks ≡ marks → s.marks ≡ []
@@ -164,14 +158,14 @@ module _ (f : FirstChain) (small : IsSmall f) (message : Option (List ℕ)) (byt
           let before : s.first ≤ q = omega (arith, long, at) in
           absurd (omega (arith, h.counted, signals_mono f small s.first q before, few, came))
 
-  pub start_moves : (s : Shape) (taken : ℕ) (ended : Bool) → Holds f small message bytes s taken ended → possible (made f small s) (Start 0) ≡ true → Moves f small message bytes s taken ended (Start 0)
+  pub start_moves : (s : Moment) (taken : ℕ) (ended : Bool) → Holds f small message bytes s taken ended → possible (made f small s) (Start 0) ≡ true → Moves f small message bytes s taken ended (Start 0)
   unfolding opcode_named
   start_moves s taken ended h p =
       let d = queue.starts (first_regions f) (first_place f) (slots_of f) (copy_at f) s p in
       let its = h.held (head_of s) d.0 d.1 in
       by_place d.0 d.1 its.2 its.1 d.2 (place_of f (head_of s) its.1)
     where
-      by_place : (copy : List ℕ) → get s.held (head_of s) ≡ Some copy → copy ≡ copy_at f (head_of s) → head_of s < slots_of f → may_start (made f small s) (queue.queue_of (first_regions f) (first_place f) (slots_of f) (copy_at f) s) (decoded copy) (opcode_of (decoded copy)) ≡ true → At f (head_of s) → Moves f small message bytes s taken ended (Start 0)
+      by_place : (copy : List ℕ) → get s.held (head_of s) ≡ Some copy → copy ≡ copy_at f (head_of s) → head_of s < slots_of f → may_start (made f small s) (queue.queue_of (first_regions f) (first_place f) (slots_of f) (copy_at f) s) (decoded copy) (class_of (decoded copy)) ≡ true → At f (head_of s) → Moves f small message bytes s taken ended (Start 0)
       by_place copy e same lt may (Message at) =
           let is : decoded copy ≡ wait_for 65536 1 = ap decoded same ∙ ap (λ (q : ℕ). decoded (copy_at f q)) at ∙ is_message f small in
           let one : s.received ≡ 1 = received_one s.memory s.mail s.received h.mail (waited s copy s.received 65536 1 is (messages s) may) in
@@ -196,9 +190,9 @@ module _ (f : FirstChain) (small : IsSmall f) (message : Option (List ℕ)) (byt
           let empty : length s.marks ≡ 0 = ap length none in
           passed s taken ended copy s.counter 0 (f.args + 1) h e same lt is (own_counter s) none (h.come (omega (arith, at))) (λ k m q. omega (arith, q, at, empty)) (λ j m q. omega (arith, q, at, empty)) (λ q. omega (arith, q, at, empty))
       by_place copy e same lt may (Taking i l at) =
-          flies s taken ended copy op.Write h e same lt (ap opcode_of (ap decoded same ∙ is_taking f small (head_of s) i l at)) queue.Writes (omega (arith, at))
+          flies s taken ended copy op.Write h e same lt (ap opcode_of (ap decoded same ∙ is_taking f small (head_of s) i l at)) refl (omega (arith, at))
       by_place copy e same lt may (Copying j l at) =
           let there : slice_get f.words j ≡ Some (slice_index f.words j) = slice_get-get_or f.words j 0 l in
-          flies s taken ended copy op.Write h e same lt (ap opcode_of (ap decoded same ∙ is_copying f small (head_of s) j (slice_index f.words j) there at)) queue.Writes (omega (arith, at))
+          flies s taken ended copy op.Write h e same lt (ap opcode_of (ap decoded same ∙ is_copying f small (head_of s) j (slice_index f.words j) there at)) refl (omega (arith, at))
       by_place copy e same lt may (Sending at) =
-          flies s taken ended copy op.Send h e same lt (ap opcode_of (ap decoded same ∙ is_sending f small (head_of s) at)) queue.Sends (omega (arith, at))
+          flies s taken ended copy op.Send h e same lt (ap opcode_of (ap decoded same ∙ is_sending f small (head_of s) at)) refl (omega (arith, at))

@@ -1,7 +1,6 @@
 -- One ordinary queue whose slots stay, and one chain: what each action needs and leaves.
 use Rattle.std.proofs.Common.{◌≡◌, ℕ, suc, ◌+◌, ◌<◌, ◌≤◌, Bool, true, false, cond, eqb, not, ◌&&◌, List, [], ◌∷◌, ◌++◌, Some, None, length, get_or, set, refl, sym, ap, ◌∙◌, arith, length-append, length-set}
-use Rattle.std.specs.Cmp.Lexicographic.{pointwise}
-use Rattle.std.specs.Prelude.{nat_eq, is_some, nat_le, nat_lt}
+use Rattle.std.specs.Prelude.{is_some, nat_le, nat_lt}
 use Rattle.std.proofs.lemmas.Bool.{eqb-true, false≢true}
 use Rattle.std.proofs.lemmas.Bool.Decides.{nat_tests}
 use Rattle.std.specs.FinMap.{get, insert, remove}
@@ -11,16 +10,19 @@ use Rattle.redn_words.specs.declared.types.QueueRow.{QueueRow}
 use Rattle.redn_words.specs.declared.types.Flight.{Flight}
 use Rattle.redn_words.specs.declared.types.Opcode.{Opcode}
 use Rattle.redn_words.specs.declared.types.Opcode.TheVariants as op
+use Rattle.redn_words.specs.declared.types.Class.TheVariants as ask
 use Rattle.redn_words.specs.declared.types.Obs.TheVariants as shows
 use Rattle.redn_words.specs.declared.types.Action.TheVariants.{Deliver, Fetch, Start, Land, Complete}
 use Rattle.redn_words.specs.Words.{with_bytes_at}
 use Rattle.redn_words.specs.Requests.{decoded, opcode_of}
 use Rattle.redn_words.specs.States.{Copies, Queue, Mail, Absent, Pending, Delivered, State, slot_of}
 use Rattle.redn_words.specs.Landings.{Landing, changed}
-use Rattle.redn_words.specs.Steps.{possible, after, shown, may_start, started, start_with, flying_in, with_landed, landing_at, signalled, counter_of, is_old, is_undefined, refused_start}
+use Rattle.redn_words.specs.Steps.{possible, after, shown, class_by, class_of, may_start, start_with, flying_in, with_landed, landing_at, signalled, counter_of}
+use Rattle.redn_words.proofs.Classes.{class_is}
+use Rattle.redn_words.proofs.Actions as laws
 
 -- what varies in a state. The requests from `first` on that `marks` has are in flight, each landed or not, and all before them have completed
-pub record Shape : Type 0 where
+pub record Moment : Type 0 where
   pub memory : List ℕ
   pub first : ℕ
   pub marks : List Bool
@@ -29,12 +31,8 @@ pub record Shape : Type 0 where
   pub mail : Mail
   pub received : ℕ
 
-abbrev pub head_of : Shape → ℕ
+abbrev pub head_of : Moment → ℕ
 head_of s = s.first + length s.marks
-
-pointwise-self : (b : List ℕ) → pointwise nat_eq b b ≡ true
-pointwise-self [] = refl
-pointwise-self (x ∷ b) = let here : nat_eq x x ≡ true = grind (arith, nat_tests) in rw here (pointwise-self b)
 
 module _ (regions : List Region) (place : Receive) (slots : ℕ) (copy_at : ℕ → List ℕ) where
   abbrev pub flight : ℕ → Bool → Flight
@@ -47,11 +45,11 @@ module _ (regions : List Region) (place : Receive) (slots : ℕ) (copy_at : ℕ 
   abbrev pub row : QueueRow
   row = record { domain = 0; managed = false; base = 0; slots = slots; limit = slots }
 
-  abbrev pub queue_of : Shape → Queue
+  abbrev pub queue_of : Moment → Queue
   queue_of s =
       record { row = row; head = head_of s; limit = slots; held = s.held; flights = flights_from s.first s.marks; counter = s.counter; stopped = false }
 
-  abbrev pub made : Shape → State
+  abbrev pub made : Moment → State
   made s =
       record {
         regions = regions;
@@ -62,7 +60,7 @@ module _ (regions : List Region) (place : Receive) (slots : ℕ) (copy_at : ℕ 
       }
 
   -- a message comes
-  pub delivers : (s : Shape) → possible (made s) (Deliver 0) ≡ true → (bytes : List ℕ) × (s.mail ≡ Pending bytes)
+  pub delivers : (s : Moment) → possible (made s) (Deliver 0) ≡ true → (bytes : List ℕ) × (s.mail ≡ Pending bytes)
   unfolding possible
   delivers s p = by_mail s.mail p
     where
@@ -71,24 +69,24 @@ module _ (regions : List Region) (place : Receive) (slots : ℕ) (copy_at : ℕ 
       by_mail (Pending bytes) q = (bytes, refl)
       by_mail Delivered q = absurd (false≢true q)
 
-  pub delivered : (s : Shape) (bytes : List ℕ) → s.mail ≡ Pending bytes → after (made s) (Deliver 0) ≡ made (record s { memory = with_bytes_at s.memory place.base bytes; mail = Delivered; received = s.received + 1 })
+  pub delivered : (s : Moment) (bytes : List ℕ) → s.mail ≡ Pending bytes → after (made s) (Deliver 0) ≡ made (record s { memory = with_bytes_at s.memory place.base bytes; mail = Delivered; received = s.received + 1 })
   unfolding after
   delivered s bytes e = rw e refl
 
   -- a slot is fetched
-  pub fetches : (s : Shape) (i : ℕ) → possible (made s) (Fetch 0 i) ≡ true → (head_of s ≤ i) × (i < slots)
+  pub fetches : (s : Moment) (i : ℕ) → possible (made s) (Fetch 0 i) ≡ true → (head_of s ≤ i) × (i < slots)
   unfolding possible
   fetches s i p = (grind (arith, nat_tests), grind (arith, nat_tests))
 
-  pub fetched : (s : Shape) (i : ℕ) (copy : List ℕ) → slot_of s.memory row i ≡ copy → after (made s) (Fetch 0 i) ≡ made (record s { held = insert s.held i copy })
+  pub fetched : (s : Moment) (i : ℕ) (copy : List ℕ) → slot_of s.memory row i ≡ copy → after (made s) (Fetch 0 i) ≡ made (record s { held = insert s.held i copy })
   unfolding after
   fetched s i copy e = ap (λ (c : List ℕ). made (record s { held = insert s.held i c })) e
 
   -- the copy of head starts
-  pub starts : (s : Shape) → possible (made s) (Start 0) ≡ true → (copy : List ℕ) × (get s.held (head_of s) ≡ Some copy) × (may_start (made s) (queue_of s) (decoded copy) (opcode_of (decoded copy)) ≡ true)
+  pub starts : (s : Moment) → possible (made s) (Start 0) ≡ true → (copy : List ℕ) × (get s.held (head_of s) ≡ Some copy) × (may_start (made s) (queue_of s) (decoded copy) (class_of (decoded copy)) ≡ true)
   unfolding possible
   starts s p =
-      elim (get s.held (head_of s)) as (λ o. get s.held (head_of s) ≡ o → start_with (made s) (queue_of s) o ≡ true → (copy : List ℕ) × (get s.held (head_of s) ≡ Some copy) × (may_start (made s) (queue_of s) (decoded copy) (opcode_of (decoded copy)) ≡ true)) [
+      elim (get s.held (head_of s)) as (λ o. get s.held (head_of s) ≡ o → start_with (made s) (queue_of s) o ≡ true → (copy : List ℕ) × (get s.held (head_of s) ≡ Some copy) × (may_start (made s) (queue_of s) (decoded copy) (class_of (decoded copy)) ≡ true)) [
         | None ↦ λ e q. absurd (false≢true q)
         | Some copy ↦ λ e q. (copy, e, q)
       ] refl p
@@ -100,82 +98,45 @@ module _ (regions : List Region) (place : Receive) (slots : ℕ) (copy_at : ℕ 
       ap (λ (l : List Flight). flight i b ∷ l) (flights-append (i + 1) marks ∙ ap (λ (n : ℕ). flights_from (i + 1) marks ++ flight n false ∷ []) e)
 
   -- a request that goes into flight
-  pub data Flies : Opcode → Type 0 where
-    Writes : Flies op.Write
-    Sends : Flies op.Send
+  abbrev pub Flies : Opcode → Type 0
+  Flies o = class_by o ≡ ask.Flies
 
-  abbrev pub with_flight : Shape → Shape
+  its_class : (copy : List ℕ) (o : Opcode) → opcode_of (decoded copy) ≡ o → Flies o → class_of (decoded copy) ≡ ask.Flies
+  its_class copy o is f = class_is (decoded copy) o is ∙ f
+
+  abbrev pub with_flight : Moment → Moment
   with_flight s = record s { marks = s.marks ++ false ∷ []; held = remove s.held (head_of s) }
 
   -- a state with another head, other held copies and other requests in flight
-  abbrev with_queue_parts : Shape → ℕ → Copies → List Flight → State
+  abbrev with_queue_parts : Moment → ℕ → Copies → List Flight → State
   with_queue_parts s head held flights =
       record (made s) { queues = record (queue_of s) { head = head; held = held; flights = flights } ∷ [] }
 
-  started_flies : (s : Shape) (copy : List ℕ) (o : Opcode) → Flies o → started (made s) 0 (queue_of s) copy (decoded copy) o ≡ with_queue_parts s (head_of s + 1) (remove s.held (head_of s)) (flights_from s.first s.marks ++ record { index = head_of s; copy = copy; landed = false } ∷ [])
-  unfolding started
-  started_flies s copy op.Write f = refl
-  started_flies s copy op.Send f = refl
-  started_flies s copy op.Noop f = elim f [ ]
-  started_flies s copy op.Read f = elim f [ ]
-  started_flies s copy op.Cas f = elim f [ ]
-  started_flies s copy op.Add f = elim f [ ]
-  started_flies s copy op.Wait f = elim f [ ]
-  started_flies s copy op.Enable f = elim f [ ]
-  started_flies s copy (op.Undefined n) f = elim f [ ]
-
-  pub flies : (s : Shape) (copy : List ℕ) (o : Opcode) → get s.held (head_of s) ≡ Some copy → copy ≡ copy_at (head_of s) → opcode_of (decoded copy) ≡ o → Flies o → after (made s) (Start 0) ≡ made (with_flight s)
-  unfolding after
+  pub flies : (s : Moment) (copy : List ℕ) (o : Opcode) → get s.held (head_of s) ≡ Some copy → copy ≡ copy_at (head_of s) → opcode_of (decoded copy) ≡ o → Flies o → after (made s) (Start 0) ≡ made (with_flight s)
   flies s copy o e same is f =
       let list : flights_from s.first s.marks ++ record { index = head_of s; copy = copy; landed = false } ∷ [] ≡ flights_from s.first (s.marks ++ false ∷ []) =
       ap (λ (c : List ℕ). flights_from s.first s.marks ++ record { index = head_of s; copy = c; landed = false } ∷ []) same ∙ sym (flights-append s.first s.marks) in
       let count : head_of s + 1 ≡ head_of (with_flight s) = omega (arith, length-append s.marks (false ∷ [])) in
-      rw (e, is) (started_flies s copy o f ∙ ap (λ (l : List Flight). with_queue_parts s (head_of s + 1) (remove s.held (head_of s)) l) list ∙ ap (λ (n : ℕ). with_queue_parts s n (remove s.held (head_of s)) (flights_from s.first (s.marks ++ false ∷ []))) count)
+      laws.flown_is (made s) 0 (queue_of s) refl copy e (its_class copy o is f) ∙ ap (λ (l : List Flight). with_queue_parts s (head_of s + 1) (remove s.held (head_of s)) l) list ∙ ap (λ (n : ℕ). with_queue_parts s n (remove s.held (head_of s)) (flights_from s.first (s.marks ++ false ∷ []))) count
 
   -- a WAIT passes
-  abbrev pub past_wait : Shape → Shape
+  abbrev pub past_wait : Moment → Moment
   past_wait s = record s { first = s.first + 1; held = remove s.held (head_of s) }
 
-  pub may_wait : (s : Shape) (copy : List ℕ) (value : ℕ) → opcode_of (decoded copy) ≡ op.Wait → counter_of (made s) 0 (decoded copy).first ≡ Some value → may_start (made s) (queue_of s) (decoded copy) (opcode_of (decoded copy)) ≡ nat_le (decoded copy).second value
-  unfolding may_start
-  may_wait s copy value is there = rw (is, there) refl
+  pub may_wait : (s : Moment) (copy : List ℕ) (value : ℕ) → opcode_of (decoded copy) ≡ op.Wait → counter_of (made s) 0 (decoded copy).first ≡ Some value → may_start (made s) (queue_of s) (decoded copy) (class_of (decoded copy)) ≡ nat_le (decoded copy).second value
+  may_wait s copy value is there = ap (may_start (made s) (queue_of s) (decoded copy)) (class_is (decoded copy) op.Wait is) ∙ laws.may_wait (made s) 0 (queue_of s) refl (decoded copy) value there
 
-  pub passes : (s : Shape) (copy : List ℕ) (value : ℕ) → get s.held (head_of s) ≡ Some copy → opcode_of (decoded copy) ≡ op.Wait → counter_of (made s) 0 (decoded copy).first ≡ Some value → s.marks ≡ [] → after (made s) (Start 0) ≡ made (past_wait s)
-  unfolding after started
+  pub passes : (s : Moment) (copy : List ℕ) (value : ℕ) → get s.held (head_of s) ≡ Some copy → opcode_of (decoded copy) ≡ op.Wait → counter_of (made s) 0 (decoded copy).first ≡ Some value → s.marks ≡ [] → after (made s) (Start 0) ≡ made (past_wait s)
   passes s copy value e is there none =
       let list : flights_from s.first s.marks ≡ flights_from (s.first + 1) s.marks = ap (flights_from s.first) none ∙ sym (ap (flights_from (s.first + 1)) none) in
       let count : head_of s + 1 ≡ head_of (past_wait s) = omega arith in
-      rw (e, is, there) (ap (λ (l : List Flight). with_queue_parts s (head_of s + 1) (remove s.held (head_of s)) l) list ∙ ap (λ (n : ℕ). with_queue_parts s n (remove s.held (head_of s)) (flights_from (s.first + 1) s.marks)) count)
+      laws.passed_is (made s) 0 (queue_of s) refl copy e value (class_is (decoded copy) op.Wait is) there ∙ ap (λ (l : List Flight). with_queue_parts s (head_of s + 1) (remove s.held (head_of s)) l) list ∙ ap (λ (n : ℕ). with_queue_parts s n (remove s.held (head_of s)) (flights_from (s.first + 1) s.marks)) count
 
-  -- a fresh copy isn't old
-  fresh : (s : Shape) (copy : List ℕ) → slot_of s.memory row (head_of s) ≡ copy → is_old (made s) (queue_of s) copy ≡ false
-  fresh s copy e = rw e (ap not (pointwise-self copy))
+  pub flies_quietly : (s : Moment) (copy : List ℕ) (o : Opcode) → get s.held (head_of s) ≡ Some copy → slot_of s.memory row (head_of s) ≡ copy → opcode_of (decoded copy) ≡ o → Flies o → shown (made s) (Start 0) ≡ shows.Nothing
+  flies_quietly s copy o e slot is f = laws.flies_quietly (made s) 0 (queue_of s) refl copy e slot (its_class copy o is f)
 
-  is_defined : (s : Shape) (copy : List ℕ) (o : Opcode) → Flies o → (is_undefined o ≡ false) × (refused_start (made s) (queue_of s) (decoded copy) o ≡ false)
-  is_defined s copy op.Write f = (refl, refl)
-  is_defined s copy op.Send f = (refl, refl)
-  is_defined s copy op.Noop f = elim f [ ]
-  is_defined s copy op.Read f = elim f [ ]
-  is_defined s copy op.Cas f = elim f [ ]
-  is_defined s copy op.Add f = elim f [ ]
-  is_defined s copy op.Wait f = elim f [ ]
-  is_defined s copy op.Enable f = elim f [ ]
-  is_defined s copy (op.Undefined n) f = elim f [ ]
-
-  pub flies_quietly : (s : Shape) (copy : List ℕ) (o : Opcode) → get s.held (head_of s) ≡ Some copy → slot_of s.memory row (head_of s) ≡ copy → opcode_of (decoded copy) ≡ o → Flies o → shown (made s) (Start 0) ≡ shows.Nothing
-  unfolding shown
-  flies_quietly s copy o e slot is f =
-      let defined = is_defined s copy o f in
-      let new : is_old (made s) (queue_of s) copy ≡ false = fresh s copy slot in
-      let known : is_undefined o ≡ false = defined.0 in
-      let allowed : refused_start (made s) (queue_of s) (decoded copy) o ≡ false = defined.1 in
-      rw (e, new, is, known, allowed) refl
-
-  pub passes_quietly : (s : Shape) (copy : List ℕ) (value : ℕ) → get s.held (head_of s) ≡ Some copy → slot_of s.memory row (head_of s) ≡ copy → opcode_of (decoded copy) ≡ op.Wait → counter_of (made s) 0 (decoded copy).first ≡ Some value → shown (made s) (Start 0) ≡ shows.Nothing
-  unfolding shown
-  passes_quietly s copy value e slot is there =
-      let new : is_old (made s) (queue_of s) copy ≡ false = fresh s copy slot in
-      rw (e, new, is, there) refl
+  pub passes_quietly : (s : Moment) (copy : List ℕ) (value : ℕ) → get s.held (head_of s) ≡ Some copy → slot_of s.memory row (head_of s) ≡ copy → opcode_of (decoded copy) ≡ op.Wait → counter_of (made s) 0 (decoded copy).first ≡ Some value → shown (made s) (Start 0) ≡ shows.Nothing
+  passes_quietly s copy value e slot is there = laws.passes_quietly (made s) 0 (queue_of s) refl copy e slot value (class_is (decoded copy) op.Wait is) there
 
   -- where the request of an index is in flight and hasn't landed
   pub record Flying (first : ℕ) (marks : List Bool) (i : ℕ) : Type 0 where
@@ -223,21 +184,21 @@ module _ (regions : List Region) (place : Receive) (slots : ℕ) (copy_at : ℕ 
       ] refl p
 
   -- a state whose head is written in another way
-  with_head : (s : Shape) (head : ℕ) → head ≡ head_of s → ◌≡◌ {A = State} (record (made s) { queues = record (queue_of s) { head = head } ∷ [] }) (made s)
+  with_head : (s : Moment) (head : ℕ) → head ≡ head_of s → ◌≡◌ {A = State} (record (made s) { queues = record (queue_of s) { head = head } ∷ [] }) (made s)
   with_head s head e = ap (λ (n : ℕ). record (made s) { queues = record (queue_of s) { head = n } ∷ [] }) e
 
   -- a request lands
-  pub lands : (s : Shape) (i : ℕ) → possible (made s) (Land 0 i) ≡ true → Flying s.first s.marks i
+  pub lands : (s : Moment) (i : ℕ) → possible (made s) (Land 0 i) ≡ true → Flying s.first s.marks i
   unfolding possible
   lands s i p = flying s.first s.marks i p
 
-  abbrev pub landing_of : Shape → ℕ → Landing
+  abbrev pub landing_of : Moment → ℕ → Landing
   landing_of s i = landing_at (made s) 0 i (queue_of s) (copy_at i)
 
-  abbrev pub with_mark : Shape → List ℕ → ℕ → Shape
+  abbrev pub with_mark : Moment → List ℕ → ℕ → Moment
   with_mark s memory nth = record s { memory = memory; marks = set s.marks nth true }
 
-  pub landed : (s : Shape) (i : ℕ) (f : Flying s.first s.marks i) → (landing_of s i).allowed ≡ true → after (made s) (Land 0 i) ≡ made (with_mark s (changed s.memory (landing_of s i).writes) f.nth)
+  pub landed : (s : Moment) (i : ℕ) (f : Flying s.first s.marks i) → (landing_of s i).allowed ≡ true → after (made s) (Land 0 i) ≡ made (with_mark s (changed s.memory (landing_of s i).writes) f.nth)
   unfolding after
   landed s i f allowed =
       let found = f.found in
@@ -245,12 +206,12 @@ module _ (regions : List Region) (place : Receive) (slots : ℕ) (copy_at : ℕ 
       let count : head_of s ≡ s.first + length (set s.marks f.nth true) = omega (arith, length-set s.marks f.nth true) in
       rw (found, allowed, left) (with_head (with_mark s (changed s.memory (landing_of s i).writes) f.nth) (head_of s) count)
 
-  pub land_shows : (s : Shape) (i : ℕ) → Flying s.first s.marks i → shown (made s) (Land 0 i) ≡ (landing_of s i).shown
+  pub land_shows : (s : Moment) (i : ℕ) → Flying s.first s.marks i → shown (made s) (Land 0 i) ≡ (landing_of s i).shown
   unfolding shown
   land_shows s i f = let found = f.found in rw found refl
 
   -- the oldest completes
-  pub completes : (s : Shape) → possible (made s) (Complete 0) ≡ true → (rest : List Bool) × (s.marks ≡ true ∷ rest)
+  pub completes : (s : Moment) → possible (made s) (Complete 0) ≡ true → (rest : List Bool) × (s.marks ≡ true ∷ rest)
   unfolding possible
   completes s p = by_marks s.marks p
     where
@@ -262,18 +223,18 @@ module _ (regions : List Region) (place : Receive) (slots : ℕ) (copy_at : ℕ 
   abbrev pub signal_at : ℕ → ℕ
   signal_at i = signalled (flight i true)
 
-  pub completed : (s : Shape) (rest : List Bool) → s.marks ≡ true ∷ rest → after (made s) (Complete 0) ≡ made (record s { first = s.first + 1; marks = rest; counter = s.counter + signal_at s.first })
+  pub completed : (s : Moment) (rest : List Bool) → s.marks ≡ true ∷ rest → after (made s) (Complete 0) ≡ made (record s { first = s.first + 1; marks = rest; counter = s.counter + signal_at s.first })
   unfolding after
   completed s rest e =
       let count : s.first + length (true ∷ rest) ≡ (s.first + 1) + length rest = omega arith in
       rw e (with_head (record s { first = s.first + 1; marks = rest; counter = s.counter + signal_at s.first }) (s.first + length (true ∷ rest)) count)
 
   -- where the actions are possible
-  pub can_deliver : (s : Shape) (bytes : List ℕ) → s.mail ≡ Pending bytes → possible (made s) (Deliver 0) ≡ true
+  pub can_deliver : (s : Moment) (bytes : List ℕ) → s.mail ≡ Pending bytes → possible (made s) (Deliver 0) ≡ true
   unfolding possible
   can_deliver s bytes e = rw e refl
 
-  pub can_fetch : (s : Shape) (i : ℕ) → head_of s ≤ i → i < slots → possible (made s) (Fetch 0 i) ≡ true
+  pub can_fetch : (s : Moment) (i : ℕ) → head_of s ≤ i → i < slots → possible (made s) (Fetch 0 i) ≡ true
   unfolding possible
   can_fetch s i low high =
       let a : nat_le (head_of s) i ≡ true = grind (arith, nat_tests) in
@@ -281,32 +242,19 @@ module _ (regions : List Region) (place : Receive) (slots : ℕ) (copy_at : ℕ 
       let c : nat_lt i (head_of s + slots) ≡ true = grind (arith, nat_tests) in
       rw (a, b, c) refl
 
-  pub can_start : (s : Shape) (copy : List ℕ) → get s.held (head_of s) ≡ Some copy → may_start (made s) (queue_of s) (decoded copy) (opcode_of (decoded copy)) ≡ true → possible (made s) (Start 0) ≡ true
+  pub can_start : (s : Moment) (copy : List ℕ) → get s.held (head_of s) ≡ Some copy → may_start (made s) (queue_of s) (decoded copy) (class_of (decoded copy)) ≡ true → possible (made s) (Start 0) ≡ true
   unfolding possible
   can_start s copy e may = rw (e, may) refl
 
-  pub may_fly : (s : Shape) (copy : List ℕ) (o : Opcode) → opcode_of (decoded copy) ≡ o → Flies o → s.marks ≡ [] → 1 ≤ slots → may_start (made s) (queue_of s) (decoded copy) (opcode_of (decoded copy)) ≡ true
-  unfolding may_start
-  may_fly s copy o is f none some = ap (may_start (made s) (queue_of s) (decoded copy)) is ∙ by_opcode o f
-    where
-      room : nat_lt (length (flights_from s.first s.marks)) slots ≡ true
-      room = ap (λ (m : List Bool). nat_lt (length (flights_from s.first m)) slots) none ∙ (let t : nat_lt 0 slots ≡ true = grind (arith, nat_tests) in t)
+  pub may_fly : (s : Moment) (copy : List ℕ) (o : Opcode) → opcode_of (decoded copy) ≡ o → Flies o → s.marks ≡ [] → 1 ≤ slots → may_start (made s) (queue_of s) (decoded copy) (class_of (decoded copy)) ≡ true
+  may_fly s copy o is f none some =
+      let few : length (flights_from s.first s.marks) ≡ 0 = ap (λ (m : List Bool). length (flights_from s.first m)) none in
+      ap (may_start (made s) (queue_of s) (decoded copy)) (its_class copy o is f) ∙ laws.may_fly (made s) 0 (queue_of s) refl (decoded copy) (omega arith)
 
-      by_opcode : (o : Opcode) → Flies o → may_start (made s) (queue_of s) (decoded copy) o ≡ true
-      by_opcode op.Write f = room
-      by_opcode op.Send f = room
-      by_opcode op.Noop f = elim f [ ]
-      by_opcode op.Read f = elim f [ ]
-      by_opcode op.Cas f = elim f [ ]
-      by_opcode op.Add f = elim f [ ]
-      by_opcode op.Wait f = elim f [ ]
-      by_opcode op.Enable f = elim f [ ]
-      by_opcode (op.Undefined n) f = elim f [ ]
-
-  pub can_land : (s : Shape) (rest : List Bool) → s.marks ≡ false ∷ rest → possible (made s) (Land 0 s.first) ≡ true
+  pub can_land : (s : Moment) (rest : List Bool) → s.marks ≡ false ∷ rest → possible (made s) (Land 0 s.first) ≡ true
   unfolding possible
   can_land s rest e = let same : eqb s.first s.first ≡ true = grind (arith, nat_tests) in rw (e, same) refl
 
-  pub can_complete : (s : Shape) (rest : List Bool) → s.marks ≡ true ∷ rest → possible (made s) (Complete 0) ≡ true
+  pub can_complete : (s : Moment) (rest : List Bool) → s.marks ≡ true ∷ rest → possible (made s) (Complete 0) ≡ true
   unfolding possible
   can_complete s rest e = rw e refl

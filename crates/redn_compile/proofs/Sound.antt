@@ -12,7 +12,7 @@ use Rattle.redn_kernel.specs.declared.types.Kernel.{out-Kernel, every_here-Kerne
 use Rattle.redn_kernel.specs.declared.types.Kernel.TheVariants.{Reply, outs-Reply}
 use Rattle.redn_kernel.specs.Program.{IsSound, IsSoundChain, IsSoundStatement, IsNamed}
 use Rattle.redn_compile.specs.FirstImage.{FirstChain, IsSmall, HasFirstShape, first_chain}
-use Rattle.redn_compile.proofs.Shapes.{same_words}
+use Rattle.redn_compile.proofs.ShapeTests.{same_words}
 
 -- a chain of the first shape that is sound is small
 small_chain : (f : FirstChain) → IsSoundChain [] (first_chain f) → IsSmall f

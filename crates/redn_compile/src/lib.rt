@@ -5,8 +5,6 @@
 mod image;
 mod requests;
 mod shape;
-#[cfg(test)]
-mod tests;
 
 pub use image::compile;
 pub use shape::has_first_shape;

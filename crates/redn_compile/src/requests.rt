@@ -2,14 +2,13 @@
 
 ghost use Rattle.std.specs.Prelude.{◌≡◌, ℕ, List, ◌++◌, ◌^◌, ◌*◌, ◌<◌, ◌≤◌, length, map, OnOk};
 ghost use Rattle.std.specs.List.{flat_map};
-ghost use Rattle.redn_words.specs.Words.{spelled};
 ghost use Rattle.redn_words.specs.Requests.{encoded};
 ghost use Rattle.redn_kernel.specs.declared.types.Word.TheVariants.{Var};
 ghost use Rattle.redn_compile.specs.FirstImage.{FirstChain, wait_for as wait_of, take_argument as take_of, copy_word as copy_of, send_words as send_of, takes, copies, requests};
 
-use byteorder::{BigEndian, ByteOrder};
 use redn_kernel::Word;
-use redn_words::{Memory, Request};
+use redn_words::{Memory, RECEIVE_BASE, Request};
+use redn_wqe::{NOOP, SEND, WAIT, WRITE, encode};
 
 /// The keys of the regions.
 pub const VARS: u32 = 1;
@@ -18,14 +17,11 @@ pub const REPLY: u32 = 2;
 
 pub const MESSAGE: u32 = 3;
 
-/// The counter of chain 0's messages.
-const RECEIVED: u64 = 65_536;
-
 /// The counter of the queue itself, which is queue 0.
 const OWN: u64 = 0;
 
 const NOTHING: Request = Request {
-    op: 0,
+    op: NOOP,
     id: 0,
     lkey: 0,
     rkey: 0,
@@ -42,7 +38,7 @@ fn wait_for(counter: u64, count: u64) -> Request
     ensures { result ≡ wait_of counter count }
 {
     Request {
-        op: 6,
+        op: WAIT,
         first: counter,
         second: count,
         ..NOTHING
@@ -55,7 +51,7 @@ fn take_argument(i: u64) -> Request
     ensures { result ≡ take_of i }
 {
     Request {
-        op: 1,
+        op: WRITE,
         lkey: MESSAGE,
         rkey: VARS,
         local: 8 * i,
@@ -73,7 +69,7 @@ fn copy_word(flags: u64, x: u64, j: u64) -> Request
     ensures { result ≡ copy_of flags x j }
 {
     Request {
-        op: 1,
+        op: WRITE,
         lkey: VARS,
         rkey: REPLY,
         local: 8 * x,
@@ -90,7 +86,7 @@ fn send_words(n: u64) -> Request
     ensures { result ≡ send_of n }
 {
     Request {
-        op: 5,
+        op: SEND,
         lkey: REPLY,
         length: 8 * n,
         flags: 1,
@@ -98,36 +94,13 @@ fn send_words(n: u64) -> Request
     }
 }
 
-/// Adds so many bytes of a number, the greatest digit first.
-#[tactic(auto, unfolding(redn_words::specs::Words::spelled))]
-fn put_number(out: &mut Vec<u8>, width: usize, x: u64) -> Result<(), Memory>
-    requires some { 1 ≤ width }
-    requires few { width ≤ 8 }
-    requires fits { x < 256 ^ width }
-    ensures { OnOk result (out.new.items ≡ out.old.items ++ spelled width x) }
-{
-    let mut bytes = [0; 8];
-    BigEndian::write_uint(&mut bytes, x, width);
-    out.extend_from_slice(&bytes[..width])?;
-    Ok(())
-}
-
 /// Adds the slot of a request.
-#[tactic(auto, unfolding(redn_words::specs::Requests::encoded))]
 fn put_request(out: &mut Vec<u8>, r: Request) -> Result<(), Memory>
     requires { r.id < 2 ^ 48 }
     ensures { OnOk result (out.new.items ≡ out.old.items ++ encoded r) }
 {
-    put_number(out, 2, u64::from(r.op))?;
-    put_number(out, 6, r.id)?;
-    put_number(out, 4, u64::from(r.lkey))?;
-    put_number(out, 4, u64::from(r.rkey))?;
-    put_number(out, 8, r.local)?;
-    put_number(out, 8, r.remote)?;
-    put_number(out, 8, r.length)?;
-    put_number(out, 8, r.first)?;
-    put_number(out, 8, r.second)?;
-    put_number(out, 8, r.flags)
+    out.extend_from_slice(&encode(&r))?;
+    Ok(())
 }
 
 /// Adds the requests that take so many arguments.
@@ -162,7 +135,7 @@ pub fn put_ring(out: &mut Vec<u8>, args: u64, words: &[u16]) -> Result<(), Memor
         ++ flat_map encoded (requests (record { args = args; words = words.now }))) }
 {
     let count = words.len() as u64;
-    put_request(out, wait_for(RECEIVED, 1))?;
+    put_request(out, wait_for(RECEIVE_BASE, 1))?;
     put_takes(out, args)?;
     put_copies(out, words)?;
     put_request(out, wait_for(OWN, args + 1))?;

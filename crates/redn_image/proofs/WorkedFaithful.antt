@@ -27,7 +27,7 @@ use Rattle.redn_kernel.specs.declared.types.Program.{Program}
 use Rattle.redn_kernel.specs.Source.{ChainState, Source, Do, source_start, source_step, is_running, events, item_does, statement_does}
 use Rattle.redn_image.specs.Rules.{Image}
 use Rattle.redn_image.specs.Agreement.{Fits, Agrees, HoldsVariables, HasTableLength, variables_of, names_table, names_by}
-use Rattle.redn_image.specs.Faithful.{Explains, CanGoOn, IsClean, first_of}
+use Rattle.redn_image.specs.Faithful.{Explains, CanGoOn, IsClean, start_of}
 
 says_seven : ChainInit
 says_seven = record { args = 0; vars = []; body = Reply (Num 7 ∷ []) ∷ [] }
@@ -83,7 +83,7 @@ it_fits =
 
 -- the first states, with the message of no words and without one
 with_message : State
-with_message = first_of image (Some [] ∷ [])
+with_message = start_of image (Some [] ∷ [])
 
 source : Source
 source = source_start program (Some [] ∷ [])
@@ -209,12 +209,12 @@ hasty =
 unasked : List Action
 unasked = Fetch 0 0 ∷ Start 0 ∷ Land 0 0 ∷ []
 
-it_replies_unasked : all_shown (first_of hasty (None ∷ [])) unasked ≡ reply_7 ∷ []
+it_replies_unasked : all_shown (start_of hasty (None ∷ [])) unasked ≡ reply_7 ∷ []
 unfolding unasked reply_7 hasty rows row encoded spelled start possible after shown started may_start counter_of decoded opcode_named number access lands
 it_replies_unasked = simp gets refl
 
 -- no run of the source shows that reply
-nothing_explains_it : (turns : List ℕ) → Explains (first_of hasty (None ∷ [])) unasked (source_start program (None ∷ [])) turns → ⊥
+nothing_explains_it : (turns : List ℕ) → Explains (start_of hasty (None ∷ [])) unasked (source_start program (None ∷ [])) turns → ⊥
 unfolding program says_seven source_start
 nothing_explains_it [] e = let shown_is = sym it_replies_unasked ∙ e.shows_events in absurd (cc)
 nothing_explains_it (zero ∷ turns) e = false≢true e.runs.0

@@ -13,10 +13,10 @@ use Rattle.redn_kernel.specs.Source.{Source, source_start, source_after, is_runn
 use Rattle.redn_image.specs.Rules.{Image}
 use Rattle.redn_image.specs.Agreement.{Fits, Agrees}
 
--- a message is absent, or has a word for each argument
+-- a message is absent, or has the eight bytes of a word for each argument
 abbrev pub IsMessageOf : ChainInit → Option (List ℕ) → Type 0
 IsMessageOf c None = Unit {0}
-IsMessageOf c (Some bytes) = length bytes ≡ 8 * c.args
+IsMessageOf c (Some bytes) = (length bytes ≡ 8 * c.args) × All (λ b. b < 256) bytes
 
 -- one for each chain
 abbrev pub AreMessages : List ChainInit → List (Option (List ℕ)) → Type 0
@@ -49,11 +49,11 @@ pub record Explains (first : State) (acts : List Action) (source : Source) (turn
   pub few : (c : ℕ) → useful_for c first acts ≤ 160 * (steps_of c turns + 1)
   pub goes_on : (c : ℕ) → is_running (source_after source turns) c ≡ true → CanGoOn (reached first acts) c
 
-abbrev pub first_of : Image → List (Option (List ℕ)) → State
-first_of i messages = start i.regions i.queues i.receives i.memory messages
+abbrev pub start_of : Image → List (Option (List ℕ)) → State
+start_of i messages = start i.regions i.queues i.receives i.memory messages
 
 -- every run of the adapter is explained, whatever the messages
 pub record Faithful (p : Program) (i : Image) : Type 0 where
   pub fits : Fits p i
-  pub explained : (messages : List (Option (List ℕ))) → AreMessages p.chains messages → (acts : List Action) → length acts < 2 ^ 62 → AllPossible (first_of i messages) acts
-      → (turns : List ℕ) × Explains (first_of i messages) acts (source_start p messages) turns
+  pub explained : (messages : List (Option (List ℕ))) → AreMessages p.chains messages → (acts : List Action) → length acts < 2 ^ 62 → AllPossible (start_of i messages) acts
+      → (turns : List ℕ) × Explains (start_of i messages) acts (source_start p messages) turns

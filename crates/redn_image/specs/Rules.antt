@@ -1,6 +1,7 @@
 -- An image, and the rules that it keeps.
-use Rattle.std.specs.Prelude.{◌≡◌, ℕ, ◌+◌, ◌*◌, ◌%◌, Bool, true, not, ◌&&◌, ◌==◌, nat_lt, nat_le, if◌then◌else◌, List, [], ◌∷◌, ◌++◌, length, map, Option, Some, None, sum_by}
+use Rattle.std.specs.Prelude.{◌≡◌, ℕ, ◌+◌, ◌*◌, ◌%◌, ◌^◌, Bool, true, not, ◌&&◌, ◌==◌, nat_lt, nat_le, if◌then◌else◌, List, [], ◌∷◌, ◌++◌, length, map, Option, Some, None, sum_by}
 use Rattle.std.specs.List.{find, list_any}
+use Rattle.redn_words.specs.declared.limits.TheConstants.{GREATEST_MEMORY, GREATEST_RING}
 use Rattle.redn_words.specs.declared.types.Region.{Region}
 use Rattle.redn_words.specs.declared.types.Kind.{Kind}
 use Rattle.redn_words.specs.declared.types.Kind.TheVariants.{Vars, Table, Code, Control, Message}
@@ -60,8 +61,9 @@ numbers_of i =
 
 -- Each rule is a test of a row, which may look at the rows before it.
 
+-- a key isn't 0, fits its four bytes, and stands in no earlier row
 abbrev pub key_is_new : List RegionNumbers → RegionNumbers → Bool
-key_is_new earlier r = not (r.key == 0) && not (list_any (λ (e : RegionNumbers). e.key == r.key) earlier)
+key_is_new earlier r = not (r.key == 0) && nat_lt r.key (2 ^ 32) && not (list_any (λ (e : RegionNumbers). e.key == r.key) earlier)
 
 -- the table's number stands where the kind is Table, and 0 elsewhere
 abbrev pub kind_is_known : List RegionNumbers → RegionNumbers → Bool
@@ -82,7 +84,7 @@ abbrev pub table_is_one : List RegionNumbers → RegionNumbers → Bool
 table_is_one earlier r = if r.kind == 1 then has_place_of r (find (is_same_table r) earlier) else true
 
 abbrev pub ring_is_inside : ℕ → List QueueNumbers → QueueNumbers → Bool
-ring_is_inside size earlier q = q.base % 64 == 0 && nat_lt 0 q.slots && nat_le q.slots 65536 && nat_le (q.base + 64 * q.slots) size
+ring_is_inside size earlier q = q.base % 64 == 0 && nat_lt 0 q.slots && nat_le q.slots GREATEST_RING && nat_le (q.base + 64 * q.slots) size
 
 abbrev pub slots_are_few : List QueueNumbers → QueueNumbers → Bool
 slots_are_few earlier q = nat_le (sum_by (λ (e : QueueNumbers). e.slots) earlier + q.slots) 524288
@@ -108,7 +110,7 @@ unless holds rule = if holds then [] else record { rule = rule; index = 0 } ∷ 
 -- the rules of the header: so many regions, queues and receives, the zero, and the size of memory
 abbrev pub header_faults : ℕ → ℕ → ℕ → ℕ → ℕ → List Fault
 header_faults regions queues receives zero_field size =
-    unless (nat_le regions 4096) 1 ++ unless (nat_le queues 65535) 2 ++ unless (nat_lt 0 receives && nat_le receives 16) 3 ++ unless (zero_field == 0) 4 ++ unless (size % 8 == 0 && nat_le size 33554432) 5
+    unless (nat_le regions 4096) 1 ++ unless (nat_le queues 65535) 2 ++ unless (nat_lt 0 receives && nat_le receives 16) 3 ++ unless (zero_field == 0) 4 ++ unless (size % 8 == 0 && nat_le size GREATEST_MEMORY) 5
 
 -- the rules of the rows
 abbrev pub row_faults : Numbers → List Fault

@@ -154,31 +154,3 @@ pub fn write_image(alloc: Global, i: &Image) -> Result<Vec<u8>, Memory>
     out.extend_from_slice(&i.memory)?;
     Ok(out)
 }
-
-#[cfg(test)]
-mod tests {
-    use super::*;
-    use std::test::Fail;
-
-    #[test]
-    fn an_image_of_one_chain_is_its_header_and_its_receive_row(
-        rt: HostRuntime,
-    ) -> Result<(), Fail> {
-        let alloc = rt.alloc();
-        let regions = Vec::new(alloc);
-        let queues = Vec::new(alloc);
-        let receives = vec![in alloc; Receive { base: 0, len: 8 }]?;
-        let memory = vec![in alloc; 1, 2, 3, 4, 5, 6, 7, 8]?;
-        let image = Image {
-            regions,
-            queues,
-            receives,
-            memory,
-        };
-        let bytes = write_image(alloc, &image)?;
-        let hand_made = b"REDN\0\0\0\x01\0\0\0\0\0\0\0\0\0\0\0\x01\0\0\0\0\0\0\0\0\0\0\0\x08\
-            \0\0\0\0\0\0\0\0\0\0\0\0\0\0\0\x08\x01\x02\x03\x04\x05\x06\x07\x08";
-        assert_eq!(rt; bytes.as_slice(), hand_made.as_slice());
-        Ok(())
-    }
-}

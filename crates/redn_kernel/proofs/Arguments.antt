@@ -2,9 +2,9 @@
 use Rattle.std.proofs.Common.{◌≡◌, ℕ, zero, suc, ◌+◌, ◌-◌, ◌*◌, ◌<◌, ◌≤◌, List, [], ◌∷◌, ◌++◌, length, refl, sym, ap, ◌∙◌, arith, add-one}
 use Rattle.std.specs.Prelude.{Option, Some, None, IfSome}
 use Rattle.std.specs.VecDeque.{deque_capacity}
-use Rattle.redn_words.specs.Words.{word}
+use Rattle.redn_words.proofs.Arguments.{length-argument_words}
 use Rattle.redn_kernel.specs.declared.run.Run.{Run}
-use Rattle.redn_kernel.specs.Source.{ChainState, Item, TakeArgument, take_arguments, argument_words, message_words}
+use Rattle.redn_kernel.specs.Source.{ChainState, Item, TakeArgument, take_arguments, message_words}
 use Rattle.redn_kernel.specs.Tasks.{all_items}
 use Rattle.redn_kernel.specs.RunView.{run_view, words_of, IsRun, HasRoom}
 
@@ -41,20 +41,6 @@ put_vars old r count i p = ap (λ (t : ChainState). t.vars) p.view
 
 pub put_words : (old r : Run) (count i : ℕ) → IsPut old r count i → words_of r ≡ words_of old
 put_words old r count i p = ap (λ (t : ChainState). t.message) p.view
-
-words_from : (bytes : List ℕ) (i n : ℕ) → argument_words bytes i (suc n) ≡ argument_words bytes i n ++ word bytes (8 * (i + n)) ∷ []
-words_from bytes i zero = ap (λ j. word bytes (8 * j) ∷ []) (omega arith)
-words_from bytes i (suc n) =
-    ap (λ ws. word bytes (8 * i) ∷ ws) (words_from bytes (i + 1) n ∙ ap (λ j. argument_words bytes (i + 1) n ++ word bytes (8 * j) ∷ []) (omega arith))
-
--- one more word of a message
-pub words_more : (bytes : List ℕ) (n : ℕ) → argument_words bytes 0 (n + 1) ≡ argument_words bytes 0 n ++ word bytes (8 * n) ∷ []
-words_more bytes n =
-    ap (argument_words bytes 0) (add-one n) ∙ words_from bytes 0 n ∙ ap (λ j. argument_words bytes 0 n ++ word bytes (8 * j) ∷ []) (omega arith)
-
-pub length-argument_words : (bytes : List ℕ) (i n : ℕ) → length (argument_words bytes i n) ≡ n
-length-argument_words bytes i zero = refl
-length-argument_words bytes i (suc n) = ap suc (length-argument_words bytes (i + 1) n)
 
 -- a message has the words of its arguments
 pub enough_words : (n : ℕ) (message : Option (List ℕ)) → IfSome (message_words n message) (λ ws. n ≤ length ws)

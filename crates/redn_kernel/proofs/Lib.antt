@@ -18,3 +18,6 @@ mod WorkedTables
 mod WorkedSound
 mod WorkedPrograms
 mod WorkedStates
+pub mod CoreRuns
+pub mod Counters
+pub mod WorkedCores

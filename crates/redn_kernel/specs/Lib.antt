@@ -6,3 +6,7 @@ pub mod StateView
 pub mod Starting
 pub mod Answered
 pub mod Single
+pub mod Steps
+pub mod CoreRun
+pub mod Becomes
+pub mod Found

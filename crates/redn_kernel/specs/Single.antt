@@ -1,5 +1,5 @@
--- Programs of one chain, which tests use.
-use Rattle.std.specs.Prelude.{◌≡◌, ℕ, ◌*◌, List, [], ◌∷◌, length}
+-- A program of one chain, which tests use.
+use Rattle.std.specs.Prelude.{◌≡◌, ℕ, List, [], ◌∷◌, length}
 use Rattle.redn_kernel.specs.declared.types.Kernel.{Kernel}
 use Rattle.redn_kernel.specs.declared.types.TableInit.{TableInit}
 use Rattle.redn_kernel.specs.declared.types.Program.{Program}
@@ -7,12 +7,6 @@ use Rattle.redn_kernel.specs.Program.{IsSound}
 
 abbrev pub one : List TableInit → ℕ → List ℕ → List Kernel → Program
 one tables args vars body = record { tables = tables; chains = record { args = args; vars = vars; body = body } ∷ [] }
-
--- a table of n words
-pub record IsOneTable (n : ℕ) (tables : List TableInit) : Type 0 where
-  pub table : TableInit
-  pub only : tables ≡ table ∷ []
-  pub words : length table.bytes ≡ 8 * n
 
 pub record IsSingle (p : Program) : Type 0 where
   pub sound : IsSound p

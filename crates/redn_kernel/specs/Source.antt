@@ -4,6 +4,7 @@ use Rattle.redn_words.specs.declared.types.Obs.{Obs}
 use Rattle.redn_words.specs.declared.types.Obs.TheVariants as shows
 use Rattle.redn_words.specs.Runs.{shown_then}
 use Rattle.redn_words.specs.Words.{word, with_bytes_at, spelled, low_48}
+use Rattle.redn_words.specs.Arguments.{argument_words}
 use Rattle.redn_kernel.specs.declared.types.Word.{Word}
 use Rattle.redn_kernel.specs.declared.types.Word.TheVariants.{Var, Num}
 use Rattle.redn_kernel.specs.declared.types.Kernel.{Kernel, out-Kernel}
@@ -218,10 +219,6 @@ take_arguments i zero = []
 take_arguments i (suc n) = TakeArgument i ∷ take_arguments (i + 1) n
 
 -- and their words in a message
-abbrev pub argument_words : List ℕ → ℕ → ℕ → List ℕ
-argument_words bytes i zero = []
-argument_words bytes i (suc n) = word bytes (8 * i) ∷ argument_words bytes (i + 1) n
-
 abbrev pub message_words : ℕ → Option (List ℕ) → Option (List ℕ)
 message_words n None = None
 message_words n (Some bytes) = Some (argument_words bytes 0 n)

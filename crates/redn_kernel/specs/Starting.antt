@@ -1,19 +1,21 @@
 -- Messages that don't fit their chains.
-use Rattle.std.specs.Prelude.{◌≡◌, ℕ, ◌+◌, ◌*◌, ◌==◌, if◌then◌else◌, List, [], ◌∷◌, ◌++◌, length, Option, Some, None}
+use Rattle.std.specs.Prelude.{◌≡◌, ℕ, ◌*◌, List, [], ◌∷◌, length, map, Option, Some, None}
+use Rattle.redn_words.specs.Misfits.{misfit as message_misfit, misfits as message_misfits}
 use Rattle.redn_kernel.specs.declared.types.ChainInit.{ChainInit}
 use Rattle.redn_kernel.specs.declared.start.StartFault.{StartFault}
 use Rattle.redn_kernel.specs.declared.start.StartFault.TheVariants as fault
 
+-- how many bytes a chain's message has
+abbrev pub wanted : ChainInit → ℕ
+wanted chain = 8 * chain.args
+
 -- a message that hasn't 8 bytes for each argument
 abbrev pub misfit : ℕ → ChainInit → Option (List ℕ) → List StartFault
-misfit c chain None = []
-misfit c chain (Some bytes) = if length bytes == 8 * chain.args then [] else fault.Message c (length bytes) (8 * chain.args) ∷ []
+misfit c chain message = message_misfit fault.Message c (wanted chain) message
 
 -- all of them, in the order of the chains, of which the first one here is c
 abbrev pub misfits : ℕ → List ChainInit → List (Option (List ℕ)) → List StartFault
-misfits c [] messages = []
-misfits c (chain ∷ chains) [] = []
-misfits c (chain ∷ chains) (m ∷ messages) = misfit c chain m ++ misfits (c + 1) chains messages
+misfits c chains messages = message_misfits fault.Message c (map wanted chains) messages
 
 abbrev pub FitsArguments : ChainInit → Option (List ℕ) → Type 0
 FitsArguments chain None = Unit {0}

@@ -12,4 +12,4 @@ mod weight;
 
 pub use start::StartFault;
 pub use state::{SourceAnswer, SourceState};
-pub use types::{ChainInit, Kernel, Program, TableInit, Word};
+pub use types::{Cell, ChainInit, Core, Kernel, Program, TableInit, Word, cell_for};

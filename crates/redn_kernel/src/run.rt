@@ -130,8 +130,7 @@ impl<'a> Run<'a> {
             Kernel::Move { to, from } => self.do_move(chain, *to, *from),
             Kernel::Add { to, by } => self.do_add(chain, *to, *by),
             Kernel::Load { to, table, offset } => {
-                let offset = self.value(*offset);
-                self.load(chain, *to, *table, offset, tables)
+                self.load(chain, *to, *table, self.value(*offset), tables)
             }
             Kernel::Store {
                 table,

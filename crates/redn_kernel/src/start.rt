@@ -3,7 +3,8 @@
 ghost use Rattle.std.specs.Prelude.{◌≡◌, ◌*◌, ◌≤◌, length, map, IfOk, IfSome, slice_get};
 ghost use Rattle.std.specs.Option.{option_map};
 ghost use Rattle.std.specs.List.{All};
-ghost use Rattle.redn_kernel.specs.Source.{fresh_chain, fresh_chains, message_words, argument_words as words_in};
+ghost use Rattle.redn_kernel.specs.Source.{fresh_chain, fresh_chains, message_words};
+ghost use Rattle.redn_words.specs.Arguments.{argument_words as words_in};
 ghost use Rattle.redn_kernel.specs.Starting.{misfit as misfit_of, misfits, FitsArguments, AllFit};
 ghost use Rattle.redn_kernel.specs.RunView.{run_view, IsRun, CanRun};
 

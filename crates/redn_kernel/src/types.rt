@@ -1,3 +1,6 @@
+ghost use Rattle.std.specs.Prelude.{◌≡◌};
+ghost use Rattle.redn_kernel.specs.CoreRun.{cell_of};
+
 use sqlite_items::Items;
 
 /// A variable of the chain, by its number, or a number.
@@ -95,4 +98,67 @@ pub struct ChainInit {
 pub struct Program {
     pub tables: Items<TableInit>,
     pub chains: Items<ChainInit>,
+}
+
+/// A word that a chain's code can read: a variable, a hidden word of the chain's own, an argument
+/// of its message, or a number.
+#[derive(Clone, Copy, Debug, PartialEq, Eq)]
+pub enum Cell {
+    Var(u16),
+    Hidden(u16),
+    Argument(u16),
+    Num(u64),
+}
+
+/// The cell that holds a word of the source.
+pub fn cell_for(word: Word) -> Cell
+    ensures { result ≡ cell_of word }
+{
+    match word {
+        Word::Var(x) => Cell::Var(x),
+        Word::Num(n) => Cell::Num(n),
+    }
+}
+
+/// A smaller statement, over variables and hidden words: what a search becomes. A target is a
+/// variable or a hidden word.
+#[derive(Debug, Drop)]
+pub enum Core {
+    Move {
+        to: Cell,
+        from: Cell,
+    },
+    /// Wraps.
+    Add {
+        to: Cell,
+        by: Cell,
+    },
+    Load {
+        to: Cell,
+        table: u16,
+        offset: Cell,
+    },
+    /// `wide` is true where 64 bits are compared, and false where the low 48 are.
+    If {
+        wide: bool,
+        left: Cell,
+        right: Cell,
+        yes: Items<Core>,
+        no: Items<Core>,
+    },
+    Loop {
+        body: Items<Core>,
+    },
+    /// Leaves the innermost `Loop`.
+    Leave,
+    /// Looks at the word at `offset`. Where its low 48 bits are the key's, the word behind it goes
+    /// to `to`, and `hit` is done; else `miss` is.
+    Probe {
+        to: Cell,
+        table: u16,
+        offset: Cell,
+        key: Cell,
+        hit: Items<Core>,
+        miss: Items<Core>,
+    },
 }

@@ -3,8 +3,6 @@
 
 mod fault;
 mod front;
-#[cfg(test)]
-mod tests;
 mod tokens;
 
 pub use fault::LexFault;

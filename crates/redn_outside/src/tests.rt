@@ -44,51 +44,6 @@ fn a_store_in_memory_holds_what_is_added_and_written(rt: HostRuntime) -> Result<
     Ok(())
 }
 
-// A read of `a`, a write of `b` and a write of `a`, with one of them listed.
-#[test]
-fn a_listed_call_fails_and_leaves_the_files(rt: HostRuntime) -> Result<(), Fail> {
-    let alloc = rt.alloc();
-    let table = [
-        (0, [true, false, false], Some(7), 9),
-        (1, [false, true, false], None, 9),
-        (2, [false, false, true], Some(7), 5),
-        (3, [false, false, false], Some(7), 9),
-    ];
-    for (listed, fails, b, a) in table {
-        let mut store = MemStore::new(alloc, vec![in alloc; listed]?);
-        store.add("a", &[5])?;
-        let answers = [
-            read_fault(&mut store, alloc, "a", 1) == Some(ReadFault::Failed),
-            store.write(alloc, "b", &[7]).err() == Some(WriteFault::Failed),
-            store.write(alloc, "a", &[9]).err() == Some(WriteFault::Failed),
-        ];
-        assert_eq!(rt; answers, fails, "at {listed}");
-        let held = ["a", "b"].map(|name| store.get(name).and_then(|file| file.first().copied()));
-        assert_eq!(rt; held, [Some(a), b], "at {listed}");
-    }
-    Ok(())
-}
-
-// Room for 9 bytes, and the calls 1 and 3 are listed.
-#[test]
-fn a_put_appends_the_piece_or_half_or_nothing(rt: HostRuntime) -> Result<(), Fail> {
-    let alloc = rt.alloc();
-    let mut sink = MemSink::new(alloc, vec![in alloc; 1, 3]?, 9)?;
-    let table = [
-        ("abc", Ok(()), "abc"),
-        ("defgh", Err(Failed), "abcde"),
-        ("12345", Err(Failed), "abcde"),
-        ("12345", Err(Failed), "abcde"),
-        ("1234", Ok(()), "abcde1234"),
-        ("5", Err(Failed), "abcde1234"),
-    ];
-    for (piece, answer, written) in table {
-        assert_eq!(rt; sink.put(piece.as_bytes()), answer, "at {piece}");
-        assert_eq!(rt; sink.written(), written.as_bytes(), "at {piece}");
-    }
-    Ok(())
-}
-
 #[test]
 fn a_store_of_the_system_reads_what_it_wrote(rt: HostRuntime) -> Result<(), Fail> {
     let alloc = rt.alloc();

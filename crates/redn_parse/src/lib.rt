@@ -10,8 +10,6 @@ mod phrase;
 mod reader;
 mod statement;
 mod table;
-#[cfg(test)]
-mod tests;
 
 pub use fault::ParseFault;
 pub use file::parse;

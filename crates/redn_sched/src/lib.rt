@@ -1,8 +1,6 @@
 #![tactic(auto)]
 
 mod line;
-#[cfg(test)]
-mod tests;
 mod text;
 
 pub use line::{Line, read_line};

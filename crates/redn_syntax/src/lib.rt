@@ -2,8 +2,6 @@
 #![tactic(auto)]
 
 mod print;
-#[cfg(test)]
-mod tests;
 mod text;
 mod token;
 mod tree;

@@ -7,7 +7,7 @@ use Rattle.redn_kernel.specs.declared.types.Program.{Program}
 use Rattle.redn_outside.specs.Files.{Files, with_file}
 use Rattle.redn_image.specs.Rules.{Image}
 use Rattle.redn_image.specs.Spelling.{Spells}
-use Rattle.redn_image.specs.Faithful.{Faithful, first_of}
+use Rattle.redn_image.specs.Faithful.{Faithful, start_of}
 use Rattle.redn_sched.specs.declared.text.Numbered.{Numbered}
 use Rattle.redn_top.specs.declared.status.Status.{Status}
 use Rattle.redn_top.specs.declared.status.Status.TheVariants.{Done, ReadFailed, Missing, WriteFailed, Long, Text, Program as ProgramRefused, Memory, Step, NotBuilt}
@@ -67,7 +67,7 @@ module _ (g : Go) (held held_now : Option Files) (p : Program) (message : List �
   its_write = record { bytes = wrote.0; spells = wrote.1; writes = refl; faithful = faithful }
 
   -- the schedule stopped
-  pub run_refused : (text text_now : Option (List ℕ)) (s : Status) → RunRefused (first_of image (Some message ∷ [])) lines text text_now s → IfSpoken s (Grew held held_now text text_now (AnswersGo g held s))
+  pub run_refused : (text text_now : Option (List ℕ)) (s : Status) → RunRefused (start_of image (Some message ∷ [])) lines text text_now s → IfSpoken s (Grew held held_now text text_now (AnswersGo g held s))
   run_refused text text_now (Step line) h =
       record {
         printed = h.0;
@@ -91,10 +91,10 @@ module _ (g : Go) (held held_now : Option Files) (p : Program) (message : List �
   printed_both xs ys (Some text) = ap Some (append_assoc text xs ys)
 
   -- the schedule ran to its end, whose line is put
-  pub run_ended : (text text_run text_now : Option (List ℕ)) → AllPossible (first_of image (Some message ∷ [])) (actions_of lines) → text_run ≡ option_map (λ before. before ++ events_text (first_of image (Some message ∷ [])) (actions_of lines)) text
+  pub run_ended : (text text_run text_now : Option (List ℕ)) → AllPossible (start_of image (Some message ∷ [])) (actions_of lines) → text_run ≡ option_map (λ before. before ++ events_text (start_of image (Some message ∷ [])) (actions_of lines)) text
       → (r : Result (Unit {0}) Status) → OnOk r (text_now ≡ option_map (λ before. before ++ end_schedule) text_run) → IfErr r PutRefused → IfSpoken (status_of r) (Grew held held_now text text_now (AnswersGo g held (status_of r)))
   run_ended text text_run text_now possible_all run (Ok done) e q =
-      let s = first_of image (Some message ∷ []) in
+      let s = start_of image (Some message ∷ []) in
       let events = events_text s (actions_of lines) in
       record {
         printed = events ++ end_schedule;

@@ -9,11 +9,12 @@ use Rattle.redn_check.specs.Rules.{Accepts}
 use Rattle.redn_top.specs.declared.status.Status.{Status}
 use Rattle.redn_top.specs.declared.status.Status.TheVariants.{Done, ReadFailed, Missing, WriteFailed, Long, Text, Program as ProgramRefused, Memory, Step, NotBuilt}
 use Rattle.redn_top.specs.Sources.{IsTextOf}
-use Rattle.redn_top.specs.Answers.{IsHeld, SourceRefused, CheckRefused, AnswersCheck, IfSpoken, Grew, status_of, file_limit}
+use Rattle.redn_top.specs.Answers.{IsHeld, SourceRefused, CheckRefused, AnswersCheck, IfSpoken, Grew, status_of}
 use Rattle.redn_top.specs.Refusals.{ReadRefused, PutRefused}
 use Rattle.redn_top.proofs.Answered.{check_refused, written_nothing}
+use Rattle.redn_top.specs.declared.limits.TheConstants.{FILE_LIMIT}
 
-read_refused : (told : Option Files) (file : List ℕ) (s : Status) → ReadRefused told file file_limit s → CheckRefused told file s
+read_refused : (told : Option Files) (file : List ℕ) (s : Status) → ReadRefused told file FILE_LIMIT s → CheckRefused told file s
 read_refused told file Missing h = h
 read_refused told file (Long seen limit) h = h
 read_refused told file ReadFailed h = tt
@@ -25,7 +26,7 @@ read_refused told file (Text fault) h = absurd h
 read_refused told file (ProgramRefused rule at seen) h = absurd h
 read_refused told file (Step line) h = absurd h
 
-source_refused : (told : Option Files) (file source : List ℕ) → IsHeld told file file_limit source → (s : Status) → SourceRefused source s → CheckRefused told file s
+source_refused : (told : Option Files) (file source : List ℕ) → IsHeld told file FILE_LIMIT source → (s : Status) → SourceRefused source s → CheckRefused told file s
 source_refused told file source held (Text fault) h = (source, (held, h))
 source_refused told file source held (ProgramRefused rule at seen) h = (source, (held, h))
 source_refused told file source held Memory h = tt
@@ -38,10 +39,10 @@ source_refused told file source held (Long seen limit) h = absurd h
 source_refused told file source held (Step line) h = absurd h
 
 module _ (file : List ℕ) (held held_now : Option Files) (stays : held_now ≡ held) where
-  pub unread : (text : Option (List ℕ)) (s : Status) → ReadRefused held file file_limit s → IfSpoken s (Grew held held_now text text (AnswersCheck file held s))
+  pub unread : (text : Option (List ℕ)) (s : Status) → ReadRefused held file FILE_LIMIT s → IfSpoken s (Grew held held_now text text (AnswersCheck file held s))
   unread text s h = check_refused file held held_now text s stays (read_refused held file s h)
 
-  module _ (source : List ℕ) (found : IsHeld held file file_limit source) where
+  module _ (source : List ℕ) (found : IsHeld held file FILE_LIMIT source) where
     pub unchecked : (text : Option (List ℕ)) (s : Status) → SourceRefused source s → IfSpoken s (Grew held held_now text text (AnswersCheck file held s))
     unchecked text s h = check_refused file held held_now text s stays (source_refused held file source found s h)
 

@@ -14,7 +14,8 @@ use Rattle.redn_top.specs.declared.status.Status.TheVariants.{Done, ReadFailed, 
 use Rattle.redn_top.specs.StatusText.{code_of, OnReadFailed, OnWriteFailed}
 use Rattle.redn_top.specs.Words.{Go, IsGo, IsCheck}
 use Rattle.redn_top.specs.Sources.{Means, TextRefused, RuleBroken}
-use Rattle.redn_top.specs.Answers.{file_limit, schedule_limit, Finds, IsHeld, IsLong, CheckRefused, Checks, Plans, LacksPart, OtherShape, BadMessage, BadLine, Reading, CanRun, LacksFile, NoSource, NoSchedule, HasLongFile, LongSource, LongSchedule, GoRefused, Written, AnswersCheck, AnswersGo, AnswersOther, Answers, OfCheck, OfGo, OfOther, Demands, RefusedCheck, GoodCheck, RefusedGo, NoCommand, IsRun, IsRunOrWant, IfSpoken, Grew}
+use Rattle.redn_top.specs.Answers.{Finds, IsHeld, IsLong, CheckRefused, Checks, Plans, LacksPart, OtherShape, BadMessage, BadLine, Reading, CanRun, LacksFile, NoSource, NoSchedule, HasLongFile, LongSource, LongSchedule, GoRefused, Written, AnswersCheck, AnswersGo, AnswersOther, Answers, OfCheck, OfGo, OfOther, Demands, RefusedCheck, GoodCheck, RefusedGo, NoCommand, IsRun, IsRunOrWant, IfSpoken, Grew}
+use Rattle.redn_top.specs.declared.limits.TheConstants.{FILE_LIMIT, SCHEDULE_LIMIT}
 
 go_with : List ℕ → List ℕ → List ℕ → List ℕ → Go
 go_with file image schedule hex = record { file = file; image = image; schedule = schedule; hex = hex }
@@ -99,36 +100,36 @@ module _ (files : Files) where
   module _ (file : List ℕ) where
     data CheckReason : ℕ → Type 0 where
       NoFile : Finds (Some files) file None → CheckReason 16
-      TooLong : (seen limit : ℕ) → IsLong (Some files) file file_limit seen limit → CheckReason 5
-      NoTree : (source : List ℕ) (fault : TextFault) → IsHeld (Some files) file file_limit source → TextRefused source fault → CheckReason 6
-      Broken : (source : List ℕ) (rule at seen : ℕ) → IsHeld (Some files) file file_limit source → RuleBroken source rule at seen → CheckReason 7
-      Good : (source : List ℕ) (p : Program) → IsHeld (Some files) file file_limit source → Means source p → CheckReason 0
+      TooLong : (seen limit : ℕ) → IsLong (Some files) file FILE_LIMIT seen limit → CheckReason 5
+      NoTree : (source : List ℕ) (fault : TextFault) → IsHeld (Some files) file FILE_LIMIT source → TextRefused source fault → CheckReason 6
+      Broken : (source : List ℕ) (rule at seen : ℕ) → IsHeld (Some files) file FILE_LIMIT source → RuleBroken source rule at seen → CheckReason 7
+      Good : (source : List ℕ) (p : Program) → IsHeld (Some files) file FILE_LIMIT source → Means source p → CheckReason 0
 
     one_check_reason : (a b : ℕ) → CheckReason a → CheckReason b → a ≡ b
     one_check_reason a b (NoFile p) (NoFile q) = refl
-    one_check_reason a b (NoFile p) (TooLong seen limit q) = absurd (long_missing file file_limit seen limit q p)
+    one_check_reason a b (NoFile p) (TooLong seen limit q) = absurd (long_missing file FILE_LIMIT seen limit q p)
     one_check_reason a b (NoFile p) (NoTree source fault h t) = absurd (not_both file source h.found p)
     one_check_reason a b (NoFile p) (Broken source rule at seen h t) = absurd (not_both file source h.found p)
     one_check_reason a b (NoFile p) (Good source q h m) = absurd (not_both file source h.found p)
-    one_check_reason a b (TooLong seen limit q) (NoFile p) = absurd (long_missing file file_limit seen limit q p)
+    one_check_reason a b (TooLong seen limit q) (NoFile p) = absurd (long_missing file FILE_LIMIT seen limit q p)
     one_check_reason a b (TooLong seen limit q) (TooLong seen' limit' p) = refl
-    one_check_reason a b (TooLong seen limit q) (NoTree source fault h t) = absurd (too_long file source file_limit seen limit h q)
-    one_check_reason a b (TooLong seen limit q) (Broken source rule at see h t) = absurd (too_long file source file_limit seen limit h q)
-    one_check_reason a b (TooLong seen limit q) (Good source p h m) = absurd (too_long file source file_limit seen limit h q)
+    one_check_reason a b (TooLong seen limit q) (NoTree source fault h t) = absurd (too_long file source FILE_LIMIT seen limit h q)
+    one_check_reason a b (TooLong seen limit q) (Broken source rule at see h t) = absurd (too_long file source FILE_LIMIT seen limit h q)
+    one_check_reason a b (TooLong seen limit q) (Good source p h m) = absurd (too_long file source FILE_LIMIT seen limit h q)
     one_check_reason a b (NoTree source fault h t) (NoFile p) = absurd (not_both file source h.found p)
-    one_check_reason a b (NoTree source fault h t) (TooLong seen limit q) = absurd (too_long file source file_limit seen limit h q)
+    one_check_reason a b (NoTree source fault h t) (TooLong seen limit q) = absurd (too_long file source FILE_LIMIT seen limit h q)
     one_check_reason a b (NoTree source fault h t) (NoTree source' fault' h' t') = refl
-    one_check_reason a b (NoTree source fault h t) (Broken other rule at seen k r) = absurd (tree_or_rule source other fault rule at seen (one_held file source other file_limit h k) t r)
-    one_check_reason a b (NoTree source fault h t) (Good other p k m) = absurd (tree_or_means source other fault p (one_held file source other file_limit h k) t m)
+    one_check_reason a b (NoTree source fault h t) (Broken other rule at seen k r) = absurd (tree_or_rule source other fault rule at seen (one_held file source other FILE_LIMIT h k) t r)
+    one_check_reason a b (NoTree source fault h t) (Good other p k m) = absurd (tree_or_means source other fault p (one_held file source other FILE_LIMIT h k) t m)
     one_check_reason a b (Broken source rule at see h t) (NoFile p) = absurd (not_both file source h.found p)
-    one_check_reason a b (Broken source rule at see h t) (TooLong seen limit q) = absurd (too_long file source file_limit seen limit h q)
-    one_check_reason a b (Broken other rule at seen k r) (NoTree source fault h t) = absurd (tree_or_rule source other fault rule at seen (one_held file source other file_limit h k) t r)
+    one_check_reason a b (Broken source rule at see h t) (TooLong seen limit q) = absurd (too_long file source FILE_LIMIT seen limit h q)
+    one_check_reason a b (Broken other rule at seen k r) (NoTree source fault h t) = absurd (tree_or_rule source other fault rule at seen (one_held file source other FILE_LIMIT h k) t r)
     one_check_reason a b (Broken source rule at see h t) (Broken source' rule' at' see' h' t') = refl
-    one_check_reason a b (Broken other rule at seen k r) (Good source p h m) = absurd (rule_or_means other source rule at seen p (one_held file other source file_limit k h) r m)
+    one_check_reason a b (Broken other rule at seen k r) (Good source p h m) = absurd (rule_or_means other source rule at seen p (one_held file other source FILE_LIMIT k h) r m)
     one_check_reason a b (Good source q h m) (NoFile p) = absurd (not_both file source h.found p)
-    one_check_reason a b (Good source p h m) (TooLong seen limit q) = absurd (too_long file source file_limit seen limit h q)
-    one_check_reason a b (Good other p k m) (NoTree source fault h t) = absurd (tree_or_means source other fault p (one_held file source other file_limit h k) t m)
-    one_check_reason a b (Good source p h m) (Broken other rule at seen k r) = absurd (rule_or_means other source rule at seen p (one_held file other source file_limit k h) r m)
+    one_check_reason a b (Good source p h m) (TooLong seen limit q) = absurd (too_long file source FILE_LIMIT seen limit h q)
+    one_check_reason a b (Good other p k m) (NoTree source fault h t) = absurd (tree_or_means source other fault p (one_held file source other FILE_LIMIT h k) t m)
+    one_check_reason a b (Good source p h m) (Broken other rule at seen k r) = absurd (rule_or_means other source rule at seen p (one_held file other source FILE_LIMIT k h) r m)
     one_check_reason a b (Good source p h m) (Good source' p' h' m') = refl
 
     good_reason : (f : File) → Checks (Some files) file f → CheckReason 0
@@ -174,20 +175,20 @@ module _ (files : Files) where
     has_both r (NoSchedule source held q) = not_both g.schedule r.schedule r.schedule_held.found q
 
     both_short : (seen limit : ℕ) → Reading (Some files) g → HasLongFile (Some files) g seen limit → ⊥
-    both_short seen limit r (LongSource q) = too_long g.file r.source file_limit seen limit r.source_held q
-    both_short seen limit r (LongSchedule source held q) = too_long g.schedule r.schedule schedule_limit seen limit r.schedule_held q
+    both_short seen limit r (LongSource q) = too_long g.file r.source FILE_LIMIT seen limit r.source_held q
+    both_short seen limit r (LongSchedule source held q) = too_long g.schedule r.schedule SCHEDULE_LIMIT seen limit r.schedule_held q
 
     missing_or_long : (seen limit : ℕ) → LacksFile (Some files) g → HasLongFile (Some files) g seen limit → ⊥
-    missing_or_long seen limit (NoSource p) (LongSource q) = long_missing g.file file_limit seen limit q p
+    missing_or_long seen limit (NoSource p) (LongSource q) = long_missing g.file FILE_LIMIT seen limit q p
     missing_or_long seen limit (NoSource p) (LongSchedule source held q) = not_both g.file source held.found p
-    missing_or_long seen limit (NoSchedule source held p) (LongSource q) = too_long g.file source file_limit seen limit held q
-    missing_or_long seen limit (NoSchedule source held p) (LongSchedule other held' q) = long_missing g.schedule schedule_limit seen limit q p
+    missing_or_long seen limit (NoSchedule source held p) (LongSource q) = too_long g.file source FILE_LIMIT seen limit held q
+    missing_or_long seen limit (NoSchedule source held p) (LongSchedule other held' q) = long_missing g.schedule SCHEDULE_LIMIT seen limit q p
 
     one_source : (r s : Reading (Some files) g) → r.source ≡ s.source
-    one_source r s = one_held g.file r.source s.source file_limit r.source_held s.source_held
+    one_source r s = one_held g.file r.source s.source FILE_LIMIT r.source_held s.source_held
 
     one_schedule : (r s : Reading (Some files) g) → r.schedule ≡ s.schedule
-    one_schedule r s = one_held g.schedule r.schedule s.schedule schedule_limit r.schedule_held s.schedule_held
+    one_schedule r s = one_held g.schedule r.schedule s.schedule SCHEDULE_LIMIT r.schedule_held s.schedule_held
 
     part_means : (source schedule hex : List ℕ) → LacksPart source schedule hex → (p : Program) × Means source p
     part_means source schedule hex (OtherShape p m not) = (p, m)

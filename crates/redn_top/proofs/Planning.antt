@@ -9,8 +9,9 @@ use Rattle.redn_top.specs.declared.status.Status.{Status}
 use Rattle.redn_top.specs.declared.status.Status.TheVariants.{Done, ReadFailed, Missing, WriteFailed, Long, Text, Program as ProgramRefused, Memory, Step, NotBuilt}
 use Rattle.redn_top.specs.Words.{Go}
 use Rattle.redn_top.specs.Sources.{Means}
-use Rattle.redn_top.specs.Answers.{IsHeld, IsLong, IsMessage, LacksPart, OtherShape, BadMessage, BadLine, PlanRefused, Reading, NoSource, NoSchedule, LongSource, LongSchedule, GoRefused, file_limit, schedule_limit}
+use Rattle.redn_top.specs.Answers.{IsHeld, IsLong, IsMessage, LacksPart, OtherShape, BadMessage, BadLine, PlanRefused, Reading, NoSource, NoSchedule, LongSource, LongSchedule, GoRefused}
 use Rattle.redn_top.specs.Refusals.{ReadRefused, MessageRefused, ScheduleRefused}
+use Rattle.redn_top.specs.declared.limits.TheConstants.{FILE_LIMIT, SCHEDULE_LIMIT}
 
 longer_held : (files : Files) (name : List ℕ) (most seen : ℕ) (held : Option (List ℕ)) → file_at files name ≡ held → IsSomeAnd held (λ bytes. most < length bytes) → seen ≡ most + 1 → IsLong (Some files) name most seen most
 longer_held files name most seen None e h s = absurd h
@@ -50,7 +51,7 @@ module _ (source schedule hex : List ℕ) (p : Program) (means : Means source p)
   lines_refused (Step line) h = absurd h
 
 -- the reads, and what follows from both files
-pub source_refused : (told : Option Files) (g : Go) (s : Status) → ReadRefused told g.file file_limit s → GoRefused told g s
+pub source_refused : (told : Option Files) (g : Go) (s : Status) → ReadRefused told g.file FILE_LIMIT s → GoRefused told g s
 source_refused told g Missing h = NoSource h
 source_refused told g (Long seen limit) h = LongSource h
 source_refused told g ReadFailed h = tt
@@ -62,7 +63,7 @@ source_refused told g (Text fault) h = absurd h
 source_refused told g (ProgramRefused rule at seen) h = absurd h
 source_refused told g (Step line) h = absurd h
 
-pub schedule_refused : (told : Option Files) (g : Go) (source : List ℕ) → IsHeld told g.file file_limit source → (s : Status) → ReadRefused told g.schedule schedule_limit s → GoRefused told g s
+pub schedule_refused : (told : Option Files) (g : Go) (source : List ℕ) → IsHeld told g.file FILE_LIMIT source → (s : Status) → ReadRefused told g.schedule SCHEDULE_LIMIT s → GoRefused told g s
 schedule_refused told g source held Missing h = NoSchedule source held h
 schedule_refused told g source held (Long seen limit) h = LongSchedule source held h
 schedule_refused told g source held ReadFailed h = tt

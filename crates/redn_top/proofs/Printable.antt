@@ -19,11 +19,11 @@ use Rattle.redn_words.specs.declared.types.Origin.{Origin}
 use Rattle.redn_words.specs.declared.types.Obs.{Obs}
 use Rattle.redn_words.specs.declared.types.Obs.TheVariants as shows
 use Rattle.redn_words.specs.Words.{word, bytes_at}
-use Rattle.redn_words.specs.Requests.{decoded, opcode_of}
+use Rattle.redn_words.specs.Requests.{decoded}
 use Rattle.redn_words.specs.Access.{region_of}
 use Rattle.redn_words.specs.Landings.{Landing, lands, two_sides, one_side, odd, write_to, write_shows, read_into_vars, read_hidden, read_shows, is_hidden, add_to, reply_words, send_shows, sum_of, is_move, table_fault, fault_in, remote_refused}
 use Rattle.redn_words.specs.States.{State, Queue}
-use Rattle.redn_words.specs.Steps.{shown, start_shows, land_shows, with_queue, is_old, is_undefined, refused_start, flying}
+use Rattle.redn_words.specs.Steps.{shown, class_of, start_shows, land_shows, with_queue, is_old, is_undefined, refused_start, flying}
 use Rattle.redn_trace.specs.EventText.{IsPrintable}
 
 record Fits (o : Obs) : Type 0 where
@@ -132,10 +132,10 @@ start_fits : (s : State) (q : ℕ) (u : Queue) (copy : Option (List ℕ)) → Fi
 start_fits s q u None = record { fits = tt }
 start_fits s q u (Some copy) =
     let r = decoded copy in
-    let refused = refused_start s u r (opcode_of r) in
+    let refused = refused_start s u.row.domain r (class_of r) in
     let last = one_of refused (shows.Refused q u.head) shows.Nothing (record { fits = tt }) (record { fits = tt }) in
-    one_of (is_old s u copy) (shows.Stale q u.head) (cond (is_undefined (opcode_of r)) (shows.Undefined q u.head) (cond refused (shows.Refused q u.head) shows.Nothing)) (record { fits = tt })
-    (one_of (is_undefined (opcode_of r)) (shows.Undefined q u.head) (cond refused (shows.Refused q u.head) shows.Nothing) (record { fits = tt }) last)
+    one_of (is_old s u copy) (shows.Stale q u.head) (cond (is_undefined (class_of r)) (shows.Undefined q u.head) (cond refused (shows.Refused q u.head) shows.Nothing)) (record { fits = tt })
+    (one_of (is_undefined (class_of r)) (shows.Undefined q u.head) (cond refused (shows.Refused q u.head) shows.Nothing) (record { fits = tt }) last)
 
 land_fits : (s : State) (q i : ℕ) (u : Queue) (f : Option Flight) → Fits (land_shows s q i u f)
 land_fits s q i u None = record { fits = tt }

@@ -18,7 +18,7 @@ use Rattle.redn_kernel.specs.declared.types.Kernel.TheVariants.{Reply}
 use Rattle.redn_kernel.specs.declared.types.Word.TheVariants.{Var}
 use Rattle.redn_kernel.specs.declared.types.Program.{Program}
 use Rattle.redn_compile.specs.FirstImage.{first_image}
-use Rattle.redn_image.specs.Faithful.{first_of}
+use Rattle.redn_image.specs.Faithful.{start_of}
 use Rattle.redn_syntax.specs.declared.token.Token.{Token}
 use Rattle.redn_syntax.specs.declared.token.TokenKind.TheVariants.{Name}
 use Rattle.redn_top.specs.declared.status.TextFault.TheVariants.{Byte, Nesting}
@@ -93,7 +93,7 @@ unfolding echo decode_pairs
 its_message = record { decodes = refl; words = refl }
 
 first : State
-first = first_of (first_image (record { args = 1; words = 0 ∷ [] })) (Some (spelled 8 42) ∷ [])
+first = start_of (first_image (record { args = 1; words = 0 ∷ [] })) (Some (spelled 8 42) ∷ [])
 
 at : ℕ → Action → Numbered
 at n a = record { line = n; action = a }

@@ -11,7 +11,7 @@ use Rattle.redn_compile.specs.FirstImage.{HasFirstShape}
 use Rattle.redn_outside.specs.Files.{Files, file_at, with_file}
 use Rattle.redn_image.specs.Rules.{Image}
 use Rattle.redn_image.specs.Spelling.{Spells}
-use Rattle.redn_image.specs.Faithful.{Faithful, first_of}
+use Rattle.redn_image.specs.Faithful.{Faithful, start_of}
 use Rattle.redn_sched.specs.declared.text.Numbered.{Numbered}
 use Rattle.redn_sched.specs.ScheduleText.{lines_of, Reads}
 use Rattle.redn_top.specs.declared.status.Status.{Status}
@@ -19,13 +19,7 @@ use Rattle.redn_top.specs.declared.status.Status.TheVariants as status
 use Rattle.redn_top.specs.Words.{Go, IsGo, IsCheck}
 use Rattle.redn_top.specs.Sources.{IsTextOf, Means, TextRefused, RuleBroken}
 use Rattle.redn_top.specs.RunText.{RunsToEnd, StopsAt}
-
--- the greatest length of a source file and of a schedule
-abbrev pub file_limit : ℕ
-file_limit = 1048576
-
-abbrev pub schedule_limit : ℕ
-schedule_limit = 16777216
+use Rattle.redn_top.specs.declared.limits.TheConstants.{FILE_LIMIT, SCHEDULE_LIMIT}
 
 -- this was found under a name: what is held there, where the store tells
 abbrev pub Finds : Option Files → List ℕ → Option (List ℕ) → Type 0
@@ -57,9 +51,9 @@ SourceRefused source _ = ⊥
 -- why a file isn't checked
 abbrev pub CheckRefused : Option Files → List ℕ → Status → Type 0
 CheckRefused told file status.Missing = Finds told file None
-CheckRefused told file (status.Long seen limit) = IsLong told file file_limit seen limit
-CheckRefused told file (status.Text fault) = (source : List ℕ) × (IsHeld told file file_limit source × TextRefused source fault)
-CheckRefused told file (status.Program rule at seen) = (source : List ℕ) × (IsHeld told file file_limit source × RuleBroken source rule at seen)
+CheckRefused told file (status.Long seen limit) = IsLong told file FILE_LIMIT seen limit
+CheckRefused told file (status.Text fault) = (source : List ℕ) × (IsHeld told file FILE_LIMIT source × TextRefused source fault)
+CheckRefused told file (status.Program rule at seen) = (source : List ℕ) × (IsHeld told file FILE_LIMIT source × RuleBroken source rule at seen)
 CheckRefused told file status.ReadFailed = Unit {0}
 CheckRefused told file status.Memory = Unit {0}
 CheckRefused told file _ = ⊥
@@ -67,7 +61,7 @@ CheckRefused told file _ = ⊥
 -- the file is held, and its rules are kept
 pub record Checks (told : Option Files) (file : List ℕ) (f : File) : Type 0 where
   pub source : List ℕ
-  pub held : IsHeld told file file_limit source
+  pub held : IsHeld told file FILE_LIMIT source
   pub read : IsTextOf source f
   pub accepted : Accepts f
 
@@ -111,8 +105,8 @@ PlanRefused source schedule hex _ = ⊥
 pub record Reading (told : Option Files) (g : Go) : Type 0 where
   pub source : List ℕ
   pub schedule : List ℕ
-  pub source_held : IsHeld told g.file file_limit source
-  pub schedule_held : IsHeld told g.schedule schedule_limit schedule
+  pub source_held : IsHeld told g.file FILE_LIMIT source
+  pub schedule_held : IsHeld told g.schedule SCHEDULE_LIMIT schedule
 
 -- what is asked can be done with what is held
 pub record CanRun (told : Option Files) (g : Go) (p : Program) (message : List ℕ) (lines : List Numbered) : Type 0 where
@@ -122,12 +116,12 @@ pub record CanRun (told : Option Files) (g : Go) (p : Program) (message : List �
 -- a file that is read isn't held
 pub data LacksFile (told : Option Files) (g : Go) : Type 0 where
   NoSource : Finds told g.file None → LacksFile told g
-  NoSchedule : (source : List ℕ) → IsHeld told g.file file_limit source → Finds told g.schedule None → LacksFile told g
+  NoSchedule : (source : List ℕ) → IsHeld told g.file FILE_LIMIT source → Finds told g.schedule None → LacksFile told g
 
 -- a file that is read is too long
 pub data HasLongFile (told : Option Files) (g : Go) (seen limit : ℕ) : Type 0 where
-  LongSource : IsLong told g.file file_limit seen limit → HasLongFile told g seen limit
-  LongSchedule : (source : List ℕ) → IsHeld told g.file file_limit source → IsLong told g.schedule schedule_limit seen limit → HasLongFile told g seen limit
+  LongSource : IsLong told g.file FILE_LIMIT seen limit → HasLongFile told g seen limit
+  LongSchedule : (source : List ℕ) → IsHeld told g.file FILE_LIMIT source → IsLong told g.schedule SCHEDULE_LIMIT seen limit → HasLongFile told g seen limit
 
 -- why nothing is run
 abbrev pub GoRefused : Option Files → Go → Status → Type 0
@@ -167,9 +161,9 @@ AnswersCheck file told s printed written = Nothing printed written × CheckRefus
 -- what `go` answers
 abbrev pub AnswersGo : Go → Option Files → Status → List ℕ → List Written → Type 0
 AnswersGo g told status.Done printed written =
-    (p : Program) × ((message : List ℕ) × ((lines : List Numbered) × CanRun told g p message lines × ((image : Image) × Compiled g p image written × RunsToEnd (first_of image (Some message ∷ [])) lines printed)))
+    (p : Program) × ((message : List ℕ) × ((lines : List Numbered) × CanRun told g p message lines × ((image : Image) × Compiled g p image written × RunsToEnd (start_of image (Some message ∷ [])) lines printed)))
 AnswersGo g told (status.Step line) printed written =
-    (p : Program) × ((message : List ℕ) × ((lines : List Numbered) × CanRun told g p message lines × ((image : Image) × Compiled g p image written × StopsAt (first_of image (Some message ∷ [])) lines line printed)))
+    (p : Program) × ((message : List ℕ) × ((lines : List Numbered) × CanRun told g p message lines × ((image : Image) × Compiled g p image written × StopsAt (start_of image (Some message ∷ [])) lines line printed)))
 AnswersGo g told s printed written = Nothing printed written × GoRefused told g s
 
 -- no other words are built

@@ -1,6 +1,7 @@
 //! The commands, over any store of files and any sink for what is printed.
 #![tactic(auto)]
 
+mod limits;
 mod reading;
 mod run;
 mod source;

@@ -9,6 +9,7 @@ ghost use Rattle.redn_top.specs.Words.{go_view};
 ghost use Rattle.redn_top.specs.Answers.{IsHeld, arguments_of, IsMessage, HasActions, Plans, PlanRefused, Reading, CanRun, GoRefused};
 ghost use Rattle.redn_top.specs.Refusals.{ReadRefused, MessageRefused, ScheduleRefused};
 
+use crate::limits::{FILE_LIMIT, SCHEDULE_LIMIT};
 use crate::source::read_program;
 use crate::status::Status;
 use crate::words::GoWords;
@@ -19,12 +20,6 @@ use redn_outside::{ReadFault, Store};
 use redn_sched::{Numbered, read_schedule};
 use redn_words::Memory;
 use std::alloc::Global;
-
-/// The greatest length of a source file, in bytes.
-pub const FILE_LIMIT: u64 = 1_048_576;
-
-/// The greatest length of a schedule, in bytes.
-const SCHEDULE_LIMIT: u64 = 16_777_216;
 
 /// A file of at most `limit` bytes.
 pub fn read_file<S: Store>(
@@ -94,7 +89,7 @@ fn message_of(alloc: Global, p: &Program, digits: &[u8]) -> Result<Vec<u8>, Stat
 
 /// The actions of a schedule without a bad line.
 fn actions_of(alloc: Global, text: &[u8]) -> Result<Vec<Numbered>, Status>
-    requires { length text.now ≤ 16777216 }
+    requires { length text.now ≤ SCHEDULE_LIMIT }
     ensures actions { IfOk result (λ lines. HasActions text.now lines.items) }
     ensures refused { IfErr result (ScheduleRefused text.now) }
 {
@@ -115,8 +110,8 @@ pub struct Job {
 
 /// What is to be run, by the contents of the two files and the digits of the message.
 fn plan(alloc: Global, source: &[u8], schedule: &[u8], hex: &[u8]) -> Result<Job, Status>
-    requires source_fits { length source.now ≤ 1048576 }
-    requires schedule_fits { length schedule.now ≤ 16777216 }
+    requires source_fits { length source.now ≤ FILE_LIMIT }
+    requires schedule_fits { length schedule.now ≤ SCHEDULE_LIMIT }
     ensures plans { IfOk result (λ job. Plans source.now schedule.now hex.now
         job.program job.message.items job.lines.items) }
     ensures sound { IfOk result (λ job. IsSound job.program) }

@@ -1,7 +1,11 @@
+use crate::source::read_program;
 use crate::status::{Status, TextFault, status_code, status_line};
 use crate::top::redn;
+use redn_graph::graph;
 use redn_outside::{MemSink, MemStore};
-use redn_words::Memory;
+use redn_region::{Regions, RegionsFault};
+use redn_words::{Class, Kind, Memory, Need, Opcode, Region, Request, Spot};
+use redn_wqe::{Field, WRITE, class, decode, encode, field_at, is_signalled, opcode};
 use std::alloc::Global;
 use std::fmt::Write;
 use std::test::Fail;
@@ -352,6 +356,27 @@ fn texts_without_a_tree_are_refused(rt: HostRuntime) -> Result<(), Fail> {
         outcome.status,
         Status::Text(TextFault::Nesting { at: 723 })
     );
+    let mut nested = String::from_str(alloc, "chain c { ")?;
+    for _ in 0..64 {
+        nested.push_str("if 1 ~ 1 { ")?;
+    }
+    for _ in 0..64 {
+        nested.push_str("} ")?;
+    }
+    nested.push_str("reply 1; }")?;
+    let outcome = check(alloc, nested.as_bytes())?;
+    assert_eq!(rt; outcome.status, Status::Done);
+    Ok(())
+}
+
+#[test]
+fn a_chain_has_its_blocks(rt: HostRuntime) -> Result<(), Fail> {
+    let alloc = rt.alloc();
+    let text = b"table t[24] ro = { 5, 6, 5 }; chain c { var p; var x; var n; loop { \
+        x = t[p]; p += 8; if x ~ 5 { n += 1; } if p ~ 24 { reply n; } } }";
+    let p = read_program(alloc, text)?;
+    let graph = graph(alloc, &p, 0)?;
+    assert!(rt; !graph.blocks.as_slice().is_empty());
     Ok(())
 }
 
@@ -542,5 +567,51 @@ fn each_status_has_its_code_and_its_line(rt: HostRuntime) -> Result<(), Fail> {
         assert_eq!(rt; &buf[..len], text);
         assert_eq!(rt; status_code(&status), code);
     }
+    Ok(())
+}
+
+#[test]
+fn a_request_is_read_from_its_slot(rt: HostRuntime) {
+    let request = Request {
+        op: WRITE,
+        id: 5,
+        lkey: 1,
+        rkey: 2,
+        local: 8,
+        remote: 16,
+        length: 8,
+        first: 0,
+        second: 0,
+        flags: 1,
+    };
+    let slot = encode(&request);
+    let place = field_at(Field::Remote) as usize;
+    assert_eq!(rt; decode(&slot), request);
+    assert_eq!(rt; opcode(&request), Opcode::Write);
+    assert_eq!(rt; class(&request), Class::Flies);
+    assert!(rt; is_signalled(&request));
+    assert_eq!(rt; slot[place + 7], 16);
+}
+
+#[test]
+fn a_region_is_found_by_its_key(rt: HostRuntime) -> Result<(), Fail> {
+    let alloc = rt.alloc();
+    let row = Region {
+        key: 7,
+        domain: 0,
+        kind: Kind::Code,
+        rights: 4,
+        base: 64,
+        len: 64,
+    };
+    let regions = Regions::new(alloc, vec![in alloc; row]?)?;
+    let spot = Spot {
+        at: 72,
+        kind: Kind::Code,
+    };
+    assert_eq!(rt; regions.row(3), None);
+    assert_eq!(rt; regions.allowed(0, 7, 8, 8, Need::RemoteWrite), Ok(spot));
+    let twice = Regions::new(alloc, vec![in alloc; row, row]?);
+    assert_eq!(rt; twice.err(), Some(RegionsFault::Repeated { index: 1 }));
     Ok(())
 }

@@ -17,7 +17,8 @@ ghost use Rattle.redn_top.specs.Words.{Go, go_view, IsGo};
 ghost use Rattle.redn_top.specs.Answers.{Answers, AnswersCheck, AnswersGo, CanRun, Checks, CheckRefused, Demands, IsRun, IsRunOrWant, IfSpoken, Grew, Stayed, status_of};
 ghost use Rattle.redn_top.specs.Refusals.{WriteRefused, OnlyMemory};
 
-use crate::reading::{FILE_LIMIT, Job, prepare, read_file};
+use crate::limits::FILE_LIMIT;
+use crate::reading::{Job, prepare, read_file};
 use crate::run::{put, run};
 use crate::source::checked_text;
 use crate::status::Status;

@@ -30,3 +30,11 @@ event_text (shows.Odd q i) = line (codes "odd") (q ∷ i ∷ [])
 abbrev pub IsPrintable : Obs → Type 0
 IsPrintable (shows.Reply c n words) = n ≤ 8
 IsPrintable _ = Unit {0}
+
+-- an event in a table
+abbrev pub IsOfTable : Obs → Type 0
+IsOfTable (shows.Load c x t o w) = Unit {0}
+IsOfTable (shows.Look c t o w) = Unit {0}
+IsOfTable (shows.Store c t o w) = Unit {0}
+IsOfTable (shows.Fault c t o) = Unit {0}
+IsOfTable _ = ⊥

@@ -1,6 +1,6 @@
-ghost use Rattle.std.specs.Prelude.{◌≡◌, ◌≤◌, ◌+◌, ◌++◌, ◌∷◌, ◌↔◌, length, take, codes};
+ghost use Rattle.std.specs.Prelude.{◌≡◌, ◌<◌, ◌≤◌, ◌+◌, ◌++◌, ◌∷◌, ◌↔◌, length, take, codes};
 ghost use Rattle.redn_words.specs.declared.types.Obs.TheVariants as shows;
-ghost use Rattle.redn_trace.specs.EventText.{event_text, line as line_of, field, IsPrintable};
+ghost use Rattle.redn_trace.specs.EventText.{event_text, line as line_of, field, IsPrintable, IsOfTable};
 
 use itoa::Buffer;
 use redn_words::Obs;
@@ -52,6 +52,52 @@ fn reply_line(buf: &mut [u8; 256], chain: u64, count: usize, words: &[u64; 8]) -
     line(buf, b"reply", &numbers[..1 + count])
 }
 
+/// Writes the line of an event in a table.
+#[tactic(auto, unfolding(crate::specs::EventText::event_text))]
+fn table_line(o: &Obs, buf: &mut [u8; 256]) -> usize
+    requires { IsOfTable o.now }
+    ensures fits { result ≤ 256 }
+    ensures some { 0 < result }
+    ensures front { take result buf.new ≡ event_text o.now }
+{
+    match *o {
+        Obs::Load {
+            chain,
+            var,
+            table,
+            offset,
+            word,
+        } => {
+            let (chain, var, table) = (u64::from(chain), u64::from(var), u64::from(table));
+            line(buf, b"load", &[chain, var, table, offset, word])
+        }
+        Obs::Look {
+            chain,
+            table,
+            offset,
+            word,
+        } => {
+            let (chain, table) = (u64::from(chain), u64::from(table));
+            line(buf, b"look", &[chain, table, offset, word])
+        }
+        Obs::Store {
+            chain,
+            table,
+            offset,
+            word,
+        } => {
+            let (chain, table) = (u64::from(chain), u64::from(table));
+            line(buf, b"store", &[chain, table, offset, word])
+        }
+        Obs::Fault {
+            chain,
+            table,
+            offset,
+        } => line(buf, b"fault", &[u64::from(chain), u64::from(table), offset]),
+        _ => unreachable!(),
+    }
+}
+
 /// Writes an event's line to the front of the buffer, newline included, and answers its length: 0
 /// for `Nothing`. What stands behind it is open.
 #[tactic(auto, unfolding(crate::specs::EventText::event_text))]
@@ -66,53 +112,14 @@ pub fn event_line(o: &Obs, buf: &mut [u8; 256]) -> usize
         Obs::Set { chain, var, word } => {
             line(buf, b"set", &[u64::from(chain), u64::from(var), word])
         }
-        Obs::Load {
-            chain,
-            var,
-            table,
-            offset,
-            word,
-        } => line(
-            buf,
-            b"load",
-            &[
-                u64::from(chain),
-                u64::from(var),
-                u64::from(table),
-                offset,
-                word,
-            ],
-        ),
-        Obs::Look {
-            chain,
-            table,
-            offset,
-            word,
-        } => line(
-            buf,
-            b"look",
-            &[u64::from(chain), u64::from(table), offset, word],
-        ),
-        Obs::Store {
-            chain,
-            table,
-            offset,
-            word,
-        } => line(
-            buf,
-            b"store",
-            &[u64::from(chain), u64::from(table), offset, word],
-        ),
+        Obs::Load { .. } | Obs::Look { .. } | Obs::Store { .. } | Obs::Fault { .. } => {
+            table_line(o, buf)
+        }
         Obs::Reply {
             chain,
             count,
             words,
         } => reply_line(buf, u64::from(chain), count as usize, &words),
-        Obs::Fault {
-            chain,
-            table,
-            offset,
-        } => line(buf, b"fault", &[u64::from(chain), u64::from(table), offset]),
         Obs::Stale { queue, index } => line(buf, b"stale", &[u64::from(queue), index]),
         Obs::Undefined { queue, index } => line(buf, b"undefined", &[u64::from(queue), index]),
         Obs::Refused { queue, index } => line(buf, b"refused", &[u64::from(queue), index]),

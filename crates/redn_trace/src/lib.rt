@@ -1,7 +1,5 @@
 #![tactic(auto)]
 
 mod event;
-#[cfg(test)]
-mod tests;
 
 pub use event::event_line;

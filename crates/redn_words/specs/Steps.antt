@@ -6,6 +6,8 @@ use Rattle.std.specs.Cmp.Lexicographic.{pointwise}
 use Rattle.redn_words.specs.declared.types.Request.{Request}
 use Rattle.redn_words.specs.declared.types.Opcode.{Opcode}
 use Rattle.redn_words.specs.declared.types.Opcode.TheVariants as op
+use Rattle.redn_words.specs.declared.types.Class.{Class}
+use Rattle.redn_words.specs.declared.types.Class.TheVariants as ask
 use Rattle.redn_words.specs.declared.types.Flight.{Flight}
 use Rattle.redn_words.specs.declared.types.Receive.{Receive}
 use Rattle.redn_words.specs.declared.types.Obs.{Obs}
@@ -13,6 +15,7 @@ use Rattle.redn_words.specs.declared.types.Obs.TheVariants as shows
 use Rattle.redn_words.specs.declared.types.Action.{Action}
 use Rattle.redn_words.specs.declared.types.Action.TheVariants.{Deliver, Fetch, Start, Land, Complete}
 use Rattle.redn_words.specs.Words.{with_bytes_at}
+use Rattle.redn_words.specs.declared.limits.TheConstants.{RECEIVE_BASE}
 use Rattle.redn_words.specs.Requests.{decoded, opcode_of}
 use Rattle.redn_words.specs.States.{Queue, Mail, Absent, Pending, Delivered, Chain, State, slot_of}
 use Rattle.redn_words.specs.Landings.{Landing, landing, changed}
@@ -20,12 +23,12 @@ use Rattle.redn_words.specs.Landings.{Landing, landing, changed}
 -- with a queue, where it is there
 abbrev pub with_queue : {X : Type 0} → Option Queue → X → (Queue → X) → X
 with_queue None none go = none
-with_queue (Some u) none go = go u
+with_queue (Some queue) none go = go queue
 
 -- the value of a counter that a domain may name
 abbrev pub queue_counter : ℕ → Option Queue → Option ℕ
 queue_counter domain None = None
-queue_counter domain (Some u) = if u.row.domain == domain then Some u.counter else None
+queue_counter domain (Some queue) = if queue.row.domain == domain then Some queue.counter else None
 
 abbrev pub chain_counter : Option Chain → Option ℕ
 chain_counter None = None
@@ -33,8 +36,8 @@ chain_counter (Some c) = Some c.received
 
 unfoldable pub counter_of : State → ℕ → ℕ → Option ℕ
 counter_of s domain n =
-    if nat_lt n 65536 then queue_counter domain (slice_get s.queues n) else (
-    if n - 65536 == domain then chain_counter (slice_get s.chains domain) else None)
+    if nat_lt n RECEIVE_BASE then queue_counter domain (slice_get s.queues n) else (
+    if n - RECEIVE_BASE == domain then chain_counter (slice_get s.chains domain) else None)
 
 -- whether a WAIT may start: also where its counter isn't there, and it is refused
 abbrev pub has_come : ℕ → Option ℕ → Bool
@@ -44,26 +47,36 @@ has_come count (Some n) = nat_le count n
 -- whether a domain may raise a queue
 abbrev pub may_raise : ℕ → Option Queue → Bool
 may_raise domain None = false
-may_raise domain (Some u) = u.row.managed && u.row.domain == domain
+may_raise domain (Some queue) = queue.row.managed && queue.row.domain == domain
+
+-- what the start of an opcode asks for
+abbrev pub class_by : Opcode → Class
+class_by op.Noop = ask.Flies
+class_by op.Write = ask.Flies
+class_by op.Read = ask.Flies
+class_by op.Cas = ask.Flies
+class_by op.Add = ask.Flies
+class_by op.Send = ask.Flies
+class_by op.Wait = ask.Passes
+class_by op.Enable = ask.Raises
+class_by (op.Undefined n) = ask.Undefined
+
+abbrev pub class_of : Request → Class
+class_of r = class_by (opcode_of r)
 
 -- where a held request may start
-unfoldable pub may_start : State → Queue → Request → Opcode → Bool
-may_start s u r op.Wait = has_come r.second (counter_of s u.row.domain r.first)
-may_start s u r op.Enable = true
-may_start s u r (op.Undefined n) = true
-may_start s u r op.Noop = nat_lt (length u.flights) u.row.slots
-may_start s u r op.Write = nat_lt (length u.flights) u.row.slots
-may_start s u r op.Read = nat_lt (length u.flights) u.row.slots
-may_start s u r op.Cas = nat_lt (length u.flights) u.row.slots
-may_start s u r op.Add = nat_lt (length u.flights) u.row.slots
-may_start s u r op.Send = nat_lt (length u.flights) u.row.slots
+unfoldable pub may_start : State → Queue → Request → Class → Bool
+may_start s queue r ask.Flies = nat_lt (length queue.flights) queue.row.slots
+may_start s queue r ask.Passes = has_come r.second (counter_of s queue.row.domain r.first)
+may_start s queue r ask.Raises = true
+may_start s queue r ask.Undefined = true
 
 -- the unlanded request of an index in flight
 abbrev pub flying_in : ℕ → List Flight → Option Flight
 flying_in i flights = find (λ (f : Flight). f.index == i && not f.landed) flights
 
 abbrev pub flying : Queue → ℕ → Option Flight
-flying u i = flying_in i u.flights
+flying queue i = flying_in i queue.flights
 
 abbrev pub is_landed : Option Flight → Bool
 is_landed None = false
@@ -80,20 +93,20 @@ deliver_possible (Some place) None = false
 deliver_possible (Some place) (Some c) = is_pending c.mail
 
 abbrev pub fetch_possible : ℕ → Queue → Bool
-fetch_possible i u = not u.stopped && nat_le u.head i && nat_lt i u.limit && nat_lt i (u.head + u.row.slots)
+fetch_possible i queue = not queue.stopped && nat_le queue.head i && nat_lt i queue.limit && nat_lt i (queue.head + queue.row.slots)
 
 abbrev pub start_with : State → Queue → Option (List ℕ) → Bool
-start_with s u None = false
-start_with s u (Some copy) = may_start s u (decoded copy) (opcode_of (decoded copy))
+start_with s queue None = false
+start_with s queue (Some copy) = may_start s queue (decoded copy) (class_of (decoded copy))
 
 abbrev pub start_possible : State → Queue → Bool
-start_possible s u = not u.stopped && start_with s u (finite.get u.held u.head)
+start_possible s queue = not queue.stopped && start_with s queue (finite.get queue.held queue.head)
 
 abbrev pub land_possible : ℕ → Queue → Bool
-land_possible i u = not u.stopped && is_some (flying u i)
+land_possible i queue = not queue.stopped && is_some (flying queue i)
 
 abbrev pub complete_possible : Queue → Bool
-complete_possible u = not u.stopped && is_landed (slice_get u.flights 0)
+complete_possible queue = not queue.stopped && is_landed (slice_get queue.flights 0)
 
 -- where an action is possible
 unfoldable pub possible : State → Action → Bool
@@ -104,7 +117,7 @@ possible s (Land q i) = with_queue (slice_get s.queues q) false (land_possible i
 possible s (Complete q) = with_queue (slice_get s.queues q) false complete_possible
 
 abbrev pub with_queue_at : State → ℕ → Queue → State
-with_queue_at s q u = record s { queues = slice_set s.queues q u }
+with_queue_at s q queue = record s { queues = slice_set s.queues q queue }
 
 -- a message arrives
 abbrev pub delivered : State → ℕ → Receive → Chain → Mail → State
@@ -122,54 +135,56 @@ deliver_after s c (Some place) None = s
 deliver_after s c (Some place) (Some chain) = delivered s c place chain chain.mail
 
 abbrev pub fetched : Queue → ℕ → List ℕ → Queue
-fetched u i copy = record u { held = finite.insert u.held i copy }
+fetched queue i copy = record queue { held = finite.insert queue.held i copy }
 
 -- the copy of head leaves the held ones
 abbrev pub past_head : Queue → Queue
-past_head u = record u { head = u.head + 1; held = finite.remove u.held u.head }
+past_head queue = record queue { head = queue.head + 1; held = finite.remove queue.held queue.head }
 
 abbrev pub flown : Queue → ℕ → List ℕ → Queue
-flown u i copy = record u { flights = u.flights ++ record { index = i; copy = copy; landed = false } ∷ [] }
+flown queue i copy = record queue { flights = queue.flights ++ record { index = i; copy = copy; landed = false } ∷ [] }
 
 abbrev pub stopped : Queue → Queue
-stopped u = record u { stopped = true }
+stopped queue = record queue { stopped = true }
 
 abbrev pub raised : Queue → ℕ → Queue
-raised u limit = record u { limit = max u.limit limit }
+raised queue limit = record queue { limit = max queue.limit limit }
 
 abbrev pub raised_in : List Queue → ℕ → ℕ → Option Queue → List Queue
 raised_in queues q limit None = queues
-raised_in queues q limit (Some u) = slice_set queues q (raised u limit)
+raised_in queues q limit (Some queue) = slice_set queues q (raised queue limit)
 
 abbrev pub enabled_in : List Queue → ℕ → ℕ → List Queue
 enabled_in queues q limit = raised_in queues q limit (slice_get queues q)
 
-abbrev pub enabled : State → ℕ → Queue → Request → State
-enabled s q u r =
-    if may_raise u.row.domain (slice_get s.queues r.first)
-    then record s { queues = enabled_in (slice_set s.queues q (past_head u)) r.first r.second }
-    else with_queue_at s q (stopped (past_head u))
+-- whether a start names a counter or a queue that its domain may not
+abbrev pub refused_start : State → ℕ → Request → Class → Bool
+refused_start s domain r ask.Flies = false
+refused_start s domain r ask.Passes = is_none (counter_of s domain r.first)
+refused_start s domain r ask.Raises = not (may_raise domain (slice_get s.queues r.first))
+refused_start s domain r ask.Undefined = false
 
--- a held request starts
-unfoldable pub started : State → ℕ → Queue → List ℕ → Request → Opcode → State
-started s q u copy r op.Wait =
-    with_queue_at s q (if is_some (counter_of s u.row.domain r.first) then past_head u else stopped (past_head u))
-started s q u copy r op.Enable = enabled s q u r
-started s q u copy r (op.Undefined n) = with_queue_at s q (stopped (past_head u))
-started s q u copy r op.Noop = with_queue_at s q (flown (past_head u) u.head copy)
-started s q u copy r op.Write = with_queue_at s q (flown (past_head u) u.head copy)
-started s q u copy r op.Read = with_queue_at s q (flown (past_head u) u.head copy)
-started s q u copy r op.Cas = with_queue_at s q (flown (past_head u) u.head copy)
-started s q u copy r op.Add = with_queue_at s q (flown (past_head u) u.head copy)
-started s q u copy r op.Send = with_queue_at s q (flown (past_head u) u.head copy)
+abbrev pub enabled : State → ℕ → Queue → Request → State
+enabled s q queue r =
+    if may_raise queue.row.domain (slice_get s.queues r.first)
+    then record s { queues = enabled_in (slice_set s.queues q (past_head queue)) r.first r.second }
+    else with_queue_at s q (stopped (past_head queue))
+
+-- a held request starts. One that is refused stops its queue
+unfoldable pub started : State → ℕ → Queue → List ℕ → Request → Class → State
+started s q queue copy r ask.Flies = with_queue_at s q (flown (past_head queue) queue.head copy)
+started s q queue copy r ask.Passes =
+    with_queue_at s q (if is_some (counter_of s queue.row.domain r.first) then past_head queue else stopped (past_head queue))
+started s q queue copy r ask.Raises = enabled s q queue r
+started s q queue copy r ask.Undefined = with_queue_at s q (stopped (past_head queue))
 
 abbrev pub start_after : State → ℕ → Queue → Option (List ℕ) → State
-start_after s q u None = s
-start_after s q u (Some copy) = started s q u copy (decoded copy) (opcode_of (decoded copy))
+start_after s q queue None = s
+start_after s q queue (Some copy) = started s q queue copy (decoded copy) (class_of (decoded copy))
 
 -- the landing of a request in flight
 abbrev pub landing_at : State → ℕ → ℕ → Queue → List ℕ → Landing
-landing_at s q i u copy = landing s.regions (record { chain = u.row.domain; queue = q; index = i }) s.memory (decoded copy)
+landing_at s q i queue copy = landing s.regions (record { chain = queue.row.domain; queue = q; index = i }) s.memory (decoded copy)
 
 -- the first unlanded request of an index has landed
 abbrev pub with_landed : ℕ → List Flight → List Flight
@@ -177,61 +192,61 @@ with_landed i [] = []
 with_landed i (f ∷ fs) = if f.index == i && not f.landed then record f { landed = true } ∷ fs else f ∷ with_landed i fs
 
 abbrev pub landed_at : Queue → ℕ → Queue
-landed_at u i = record u { flights = with_landed i u.flights }
+landed_at queue i = record queue { flights = with_landed i queue.flights }
 
 abbrev pub land_leaves : State → ℕ → ℕ → Queue → Landing → State
-land_leaves s q i u l =
-    record s { memory = changed s.memory l.writes; queues = slice_set s.queues q (if l.allowed then landed_at u i else stopped u) }
+land_leaves s q i queue l =
+    record s { memory = changed s.memory l.writes; queues = slice_set s.queues q (if l.allowed then landed_at queue i else stopped queue) }
 
 abbrev pub land_after : State → ℕ → ℕ → Queue → Option Flight → State
-land_after s q i u None = s
-land_after s q i u (Some f) = land_leaves s q i u (landing_at s q i u f.copy)
+land_after s q i queue None = s
+land_after s q i queue (Some f) = land_leaves s q i queue (landing_at s q i queue f.copy)
 
 abbrev pub signalled : Flight → ℕ
 signalled f = (decoded f.copy).flags % 2
 
 abbrev pub completed : Queue → List Flight → Queue
-completed u [] = u
-completed u (f ∷ fs) = record u { flights = fs; counter = u.counter + signalled f }
+completed queue [] = queue
+completed queue (f ∷ fs) = record queue { flights = fs; counter = queue.counter + signalled f }
 
 -- what an action leaves, where it is possible
 unfoldable pub after : State → Action → State
 after s (Deliver c) = deliver_after s c (slice_get s.receives c) (slice_get s.chains c)
-after s (Fetch q i) = with_queue (slice_get s.queues q) s (λ u. with_queue_at s q (fetched u i (slot_of s.memory u.row i)))
-after s (Start q) = with_queue (slice_get s.queues q) s (λ u. start_after s q u (finite.get u.held u.head))
-after s (Land q i) = with_queue (slice_get s.queues q) s (λ u. land_after s q i u (flying u i))
-after s (Complete q) = with_queue (slice_get s.queues q) s (λ u. with_queue_at s q (completed u u.flights))
+after s (Fetch q i) = with_queue (slice_get s.queues q) s (λ queue. with_queue_at s q (fetched queue i (slot_of s.memory queue.row i)))
+after s (Start q) = with_queue (slice_get s.queues q) s (λ queue. start_after s q queue (finite.get queue.held queue.head))
+after s (Land q i) = with_queue (slice_get s.queues q) s (λ queue. land_after s q i queue (flying queue i))
+after s (Complete q) = with_queue (slice_get s.queues q) s (λ queue. with_queue_at s q (completed queue queue.flights))
 
 -- a held copy is old where it isn't what stands in its slot now
 abbrev pub is_old : State → Queue → List ℕ → Bool
-is_old s u copy = not (pointwise nat_eq copy (slot_of s.memory u.row u.head))
+is_old s queue copy = not (pointwise nat_eq copy (slot_of s.memory queue.row queue.head))
 
-abbrev pub refused_start : State → Queue → Request → Opcode → Bool
-refused_start s u r op.Wait = is_none (counter_of s u.row.domain r.first)
-refused_start s u r op.Enable = not (may_raise u.row.domain (slice_get s.queues r.first))
-refused_start s u r _ = false
+abbrev pub is_undefined : Class → Bool
+is_undefined ask.Flies = false
+is_undefined ask.Passes = false
+is_undefined ask.Raises = false
+is_undefined ask.Undefined = true
 
-abbrev pub is_undefined : Opcode → Bool
-is_undefined (op.Undefined n) = true
-is_undefined _ = false
+abbrev pub started_shows : State → ℕ → Queue → List ℕ → Request → Class → Obs
+started_shows s q queue copy r c =
+    if is_old s queue copy then shows.Stale q queue.head else (
+    if is_undefined c then shows.Undefined q queue.head else (
+    if refused_start s queue.row.domain r c then shows.Refused q queue.head else shows.Nothing))
 
 abbrev pub start_shows : State → ℕ → Queue → Option (List ℕ) → Obs
-start_shows s q u None = shows.Nothing
-start_shows s q u (Some copy) =
-    if is_old s u copy then shows.Stale q u.head else (
-    if is_undefined (opcode_of (decoded copy)) then shows.Undefined q u.head else (
-    if refused_start s u (decoded copy) (opcode_of (decoded copy)) then shows.Refused q u.head else shows.Nothing))
+start_shows s q queue None = shows.Nothing
+start_shows s q queue (Some copy) = started_shows s q queue copy (decoded copy) (class_of (decoded copy))
 
 abbrev pub land_shows : State → ℕ → ℕ → Queue → Option Flight → Obs
-land_shows s q i u None = shows.Nothing
-land_shows s q i u (Some f) = (landing_at s q i u f.copy).shown
+land_shows s q i queue None = shows.Nothing
+land_shows s q i queue (Some f) = (landing_at s q i queue f.copy).shown
 
 -- what an action shows
 unfoldable pub shown : State → Action → Obs
 shown s (Deliver c) = shows.Nothing
 shown s (Fetch q i) = shows.Nothing
-shown s (Start q) = with_queue (slice_get s.queues q) shows.Nothing (λ u. start_shows s q u (finite.get u.held u.head))
-shown s (Land q i) = with_queue (slice_get s.queues q) shows.Nothing (λ u. land_shows s q i u (flying u i))
+shown s (Start q) = with_queue (slice_get s.queues q) shows.Nothing (λ queue. start_shows s q queue (finite.get queue.held queue.head))
+shown s (Land q i) = with_queue (slice_get s.queues q) shows.Nothing (λ queue. land_shows s q i queue (flying queue i))
 shown s (Complete q) = shows.Nothing
 
 -- one step, and what it shows
@@ -239,22 +254,22 @@ abbrev pub step : State → Action → Option (State × Obs)
 step s a = if possible s a then Some (after s a, shown s a) else None
 
 abbrev pub held_is_old : State → Queue → Option (List ℕ) → Bool
-held_is_old s u None = false
-held_is_old s u (Some copy) = is_old s u copy
+held_is_old s queue None = false
+held_is_old s queue (Some copy) = is_old s queue copy
 
 -- a start is stale where the copy that it runs isn't what stands in its slot at that moment
 abbrev pub is_stale : State → Action → Bool
-is_stale s (Start q) = with_queue (slice_get s.queues q) false (λ u. held_is_old s u (finite.get u.held u.head))
+is_stale s (Start q) = with_queue (slice_get s.queues q) false (λ queue. held_is_old s queue (finite.get queue.held queue.head))
 is_stale s _ = false
 
 -- an action is useful unless it fetches an index again whose copy is held
 abbrev pub is_useful : State → Action → Bool
-is_useful s (Fetch q i) = with_queue (slice_get s.queues q) false (λ u. is_none (finite.get u.held i))
+is_useful s (Fetch q i) = with_queue (slice_get s.queues q) false (λ queue. is_none (finite.get queue.held i))
 is_useful s _ = true
 
 abbrev pub domain_of : Option Queue → Option ℕ
 domain_of None = None
-domain_of (Some u) = Some u.row.domain
+domain_of (Some queue) = Some queue.row.domain
 
 -- the chain whose action it is
 abbrev pub chain_of : State → Action → Option ℕ
@@ -263,3 +278,11 @@ chain_of s (Fetch q i) = domain_of (slice_get s.queues q)
 chain_of s (Start q) = domain_of (slice_get s.queues q)
 chain_of s (Land q i) = domain_of (slice_get s.queues q)
 chain_of s (Complete q) = domain_of (slice_get s.queues q)
+
+-- the queue whose action it is
+abbrev pub acts_on : Action → Option ℕ
+acts_on (Deliver c) = None
+acts_on (Fetch q i) = Some q
+acts_on (Start q) = Some q
+acts_on (Land q i) = Some q
+acts_on (Complete q) = Some q

@@ -126,6 +126,16 @@ pub enum Opcode {
     Undefined(u16),
 }
 
+/// What the start of a request asks for: to go into flight, to pass (a WAIT), to raise a queue's
+/// limit (an ENABLE), or nothing that is known.
+#[derive(Clone, Copy, Debug, PartialEq, Eq)]
+pub enum Class {
+    Flies,
+    Passes,
+    Raises,
+    Undefined,
+}
+
 #[derive(Clone, Copy, Debug, PartialEq, Eq)]
 pub enum Kind {
     Vars,

@@ -1,13 +1,15 @@
-use Rattle.std.proofs.Common.{◌≡◌, ◌≤◌, List, ℕ, Option, Vec, Global, [], length, map, refl, sym, ap, ◌∙◌, arith}
+use Rattle.std.proofs.Common.{◌≡◌, ◌≤◌, ◌+◌, ◌-◌, ◌^◌, List, ℕ, Option, Vec, Global, [], length, map, refl, sym, ap, ◌∙◌, arith}
 use Rattle.std.specs.Option.{option_map}
 use Rattle.std.proofs.lemmas.List.Elements.{All-map, All-weaker}
+use Rattle.redn_words.specs.declared.types.Region.{Region}
+use Rattle.redn_words.specs.declared.limits.TheConstants.{GREATEST_RING}
 use Rattle.redn_words.specs.declared.types.QueueRow.{QueueRow}
 use Rattle.redn_words.specs.States.{Chain, start, fresh_chain, fresh_queue}
 use Rattle.redn_image.specs.View.{image_view}
 use Rattle.redn_adapter.specs.AdapterView.{IsRing, IsQueueAt}
 use Rattle.redn_adapter.specs.Opening.{misfits}
-use Rattle.redn_adapter.proofs.Images.{image_inside, mails_fit}
-use Rattle.redn_adapter.proofs.Misfits.{none_first}
+use Rattle.redn_adapter.proofs.Images.{image_inside, keys_differ, mails_fit}
+use Rattle.redn_words.proofs.Misfits.{none_first}
 use Rattle.redn_adapter.proofs.adapter.open.Goals as goal
 use Rattle.redn_adapter.proofs.adapter.open.Goals.{After-i, In_default}
 
@@ -16,11 +18,25 @@ first_misfit-requires-clause-few c =
     let inside = image_inside (image_view c.i.inside) c.i.invariant in
     omega (arith, inside.few, ap length c.deref.ensures.value)
 
+pub registered-requires-clause-few : goal.registered-requires-clause-few
+registered-requires-clause-few c =
+    let inside = image_inside (image_view c.i.inside) c.i.invariant in
+    omega (arith, inside.few_regions)
+
+pub registered-requires-clause-ends : goal.registered-requires-clause-ends
+registered-requires-clause-ends c =
+    let inside = image_inside (image_view c.i.inside) c.i.invariant in
+    let size = length c.i.inside.memory.items in
+    All-weaker (λ (r : Region). r.base + r.len ≤ size) (λ (r : Region). r.base + r.len ≤ 2 ^ 64 - 1) (λ r h. omega (arith, inside.size)) c.i.inside.regions.items inside.regions
+
+pub registered-requires-clause-distinct : goal.registered-requires-clause-distinct
+registered-requires-clause-distinct c = keys_differ (image_view c.i.inside) c.i.invariant
+
 pub first_queues-requires : goal.first_queues-requires
 first_queues-requires c =
     let inside = image_inside (image_view c.i.inside) c.i.invariant in
     let rows = c.i.inside.queues.items in
-    rw c.deref-3.ensures.value (All-weaker (IsRing (length c.i.inside.memory.items)) (λ (r : QueueRow). r.slots ≤ 65536) (λ r h. h.few) rows inside.queues)
+    rw c.deref-3.ensures.value (All-weaker (IsRing (length c.i.inside.memory.items)) (λ (r : QueueRow). r.slots ≤ GREATEST_RING) (λ r h. h.few) rows inside.queues)
 
 messages_of : List (Option (Vec ℕ Global)) → List (Option (List ℕ))
 messages_of kept = map (option_map (λ (v : Vec ℕ Global). v.items)) kept
@@ -43,7 +59,7 @@ invariant_of-result c =
     let ring = λ (row : QueueRow) (h : IsRing size row). let first : IsQueueAt size 0 (fresh_queue row) = record { ring = h; head = omega arith; counter = omega arith } in first in
     record {
       size = inside.size;
-      regions = inside.regions;
+      regions = rw c.in_ok-regions.ensures.rows inside.regions;
       chains = rw c.in_ok-chains.ensures (All-map (λ (d : Chain). d.received ≤ 0) fresh_chain messages (λ k d l. omega arith));
       receives = inside.receives;
       mails = λ k l. rw c.in_ok-chains.ensures (mails_fit 0 a.receives.items messages (no_misfit at) k);
@@ -54,7 +70,7 @@ pub returns-clause-state : goal.returns-clause-state
 unfolding start
 returns-clause-state c =
     let rows = rw c.deref-3.ensures.value at c.in_ok-queues.ensures in
-    rw (← c.i.view_is, ← c.ms.view_is, rows, c.in_ok-chains.ensures) refl
+    rw (← c.i.view_is, ← c.ms.view_is, c.in_ok-regions.ensures.rows, rows, c.in_ok-chains.ensures) refl
 
 pub returns-clause-fits : goal.returns-clause-fits
 unfolding messages_of

@@ -3,7 +3,7 @@ use Rattle.redn_syntax.specs.declared.tree.StmtKind.{out-StmtKind}
 use Rattle.redn_syntax.specs.declared.tree.StmtKind.TheVariants.{outs-Break, outs-If}
 use Rattle.redn_check.specs.Faults.{first_of}
 use Rattle.redn_check.specs.Rules.{loose_breaks}
-use Rattle.redn_check.proofs.Firsts.{stepped}
+use Rattle.redn_check.proofs.EarliestOf.{stepped}
 use Rattle.redn_check.proofs.Breaks.{loose, breaks_of_break, found_breaks, no_breaks, loose_more}
 use Rattle.redn_check.proofs.flow.+breaks.Goals as goal
 

@@ -4,7 +4,7 @@ use Rattle.redn_check.specs.Faults.{first_of, when, fault}
 use Rattle.redn_check.specs.Flow.{body_flow}
 use Rattle.redn_check.specs.Rules.{loose_breaks, open_end, unreached, flow_faults}
 use Rattle.redn_check.specs.Statements.{each_of}
-use Rattle.redn_check.proofs.Firsts.{stepped, first_of-append}
+use Rattle.redn_check.proofs.EarliestOf.{stepped, first_of-append}
 use Rattle.redn_check.proofs.flow.first_in_flow.Goals as goal
 
 pub returns : goal.returns

@@ -3,7 +3,7 @@ use Rattle.std.proofs.lemmas.List.{length-take-le}
 use Rattle.redn_check.specs.Faults.{first_of, fault, when}
 use Rattle.redn_check.specs.Rules.{bad_length, bad_item, table_faults}
 use Rattle.redn_check.proofs.Behind.{sum_more, capped}
-use Rattle.redn_check.proofs.Firsts.{stepped, first_of-append, first_more_earlier}
+use Rattle.redn_check.proofs.EarliestOf.{stepped, first_of-append, first_more_earlier}
 use Rattle.redn_check.proofs.limits.first_in_tables.Goals as goal
 
 pub loop-i-preserved : goal.loop-i-preserved

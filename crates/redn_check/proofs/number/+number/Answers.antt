@@ -33,40 +33,6 @@ kernel-overflow_cast-result t c =
     let fits : c.in-Repeat.count.value ≤ 4294967295 = count_fits c.args.s.now c.requires _ _ (ap out-StmtKind c.in-Repeat.is ∙ outs-Repeat _ _) in
     omega arith
 
-pub kernel-overflow_cast-result-in-Lookup : goal.kernel-overflow_cast-result-in-Lookup
-kernel-overflow_cast-result-in-Lookup t c =
-    let fits : c.in-Lookup.probes.value ≤ 4 = probes_fit c.args.s.now c.requires _ _ _ _ _ (ap out-StmtKind c.in-Lookup.is ∙ outs-Lookup _ _ _ _ _) in
-    omega arith
-
-pub kernel-overflow_cast-result-in-Walk : goal.kernel-overflow_cast-result-in-Walk
-kernel-overflow_cast-result-in-Walk t c =
-    let fits : c.in-Walk.nodes.value ≤ 65535 = nodes_fit c.args.s.now c.requires _ _ _ _ _ (ap out-StmtKind c.in-Walk.is ∙ outs-Walk _ _ _ _ _) in
-    omega arith
-
-pub kernel-returns-in-Move : goal.kernel-returns-in-Move
-kernel-returns-in-Move t c =
-    let scope = c.args.numbers.now.scope in
-    (λ j. k.Move (c.variable_number.ensures j) (c.word.ensures j))
-    ∙ sym (kernel_move (table_names scope.tables.now) (variables scope.chain.now) c.args.s.now _ _ (ap out-StmtKind c.in-Move.is ∙ outs-Move _ _))
-
-pub kernel-returns-in-Add : goal.kernel-returns-in-Add
-kernel-returns-in-Add t c =
-    let scope = c.args.numbers.now.scope in
-    (λ j. k.Add (c.variable_number-in-Add.ensures j) (c.word-in-Add.ensures j))
-    ∙ sym (kernel_add (table_names scope.tables.now) (variables scope.chain.now) c.args.s.now _ _ (ap out-StmtKind c.in-Add.is ∙ outs-Add _ _))
-
-pub kernel-returns-in-Load : goal.kernel-returns-in-Load
-kernel-returns-in-Load t c =
-    let scope = c.args.numbers.now.scope in
-    (λ j. k.Load (c.variable_number-in-Load.ensures j) (c.table_number.ensures j) (c.word-in-Load.ensures j))
-    ∙ sym (kernel_load (table_names scope.tables.now) (variables scope.chain.now) c.args.s.now _ _ _ (ap out-StmtKind c.in-Load.is ∙ outs-Load _ _ _))
-
-pub kernel-returns-in-Store : goal.kernel-returns-in-Store
-kernel-returns-in-Store t c =
-    let scope = c.args.numbers.now.scope in
-    (λ j. k.Store (c.table_number-in-Store.ensures j) (c.word-in-Store.ensures j) (c.word-in-Store-2.ensures j))
-    ∙ sym (kernel_store (table_names scope.tables.now) (variables scope.chain.now) c.args.s.now _ _ _ (ap out-StmtKind c.in-Store.is ∙ outs-Store _ _ _))
-
 pub kernel-returns-in_ok-no-in-If : goal.kernel-returns-in_ok-no-in-If
 kernel-returns-in_ok-no-in-If t c =
     let scope = c.args.numbers.now.scope in
@@ -74,7 +40,7 @@ kernel-returns-in_ok-no-in-If t c =
     let names = variables scope.chain.now in
     let met = c.in_ok-yes-in-If.ensures ∙ ap (map (kernel_of tables names)) c.as_slice.ensures in
     let unmet = c.in_ok-no-in-If.ensures ∙ ap (map (kernel_of tables names)) c.as_slice-in-If.ensures in
-    (λ j. k.If c.in-If.wide (c.word-in-If.ensures j) (c.word-in-If-2.ensures j) (met j) (unmet j))
+    (λ j. k.If c.in-If.wide (c.word.ensures j) (c.word-in-If.ensures j) (met j) (unmet j))
     ∙ sym (kernel_if tables names c.args.s.now _ _ _ _ _ (ap out-StmtKind c.in-If.is ∙ outs-If _ _ _ _ _))
 
 pub kernel-returns-in_ok-body-in-Loop : goal.kernel-returns-in_ok-body-in-Loop
@@ -92,23 +58,6 @@ kernel-returns-in_ok-body-in-Repeat t c =
     let names = variables scope.chain.now in
     let body = c.in_ok-body-in-Repeat.ensures ∙ ap (map (kernel_of tables names)) c.as_slice-in-Repeat.ensures in
     ap (k.Repeat c.in-Repeat.count.value) body ∙ sym (kernel_repeat tables names c.args.s.now _ _ (ap out-StmtKind c.in-Repeat.is ∙ outs-Repeat _ _))
-
-pub kernel-returns-in-Break : goal.kernel-returns-in-Break
-kernel-returns-in-Break t c =
-    let scope = c.args.numbers.now.scope in
-    sym (kernel_break (table_names scope.tables.now) (variables scope.chain.now) c.args.s.now (ap out-StmtKind c.in-Break.is ∙ outs-Break))
-
-pub kernel-returns-in-Lookup : goal.kernel-returns-in-Lookup
-kernel-returns-in-Lookup t c =
-    let scope = c.args.numbers.now.scope in
-    (λ j. k.Lookup (c.variable_number-in-Lookup.ensures j) (c.table_number-in-Lookup.ensures j) (c.word-in-Lookup.ensures j) (c.word-in-Lookup-2.ensures j) c.in-Lookup.probes.value)
-    ∙ sym (kernel_lookup (table_names scope.tables.now) (variables scope.chain.now) c.args.s.now _ _ _ _ _ (ap out-StmtKind c.in-Lookup.is ∙ outs-Lookup _ _ _ _ _))
-
-pub kernel-returns-in-Walk : goal.kernel-returns-in-Walk
-kernel-returns-in-Walk t c =
-    let scope = c.args.numbers.now.scope in
-    (λ j. k.Walk (c.variable_number-in-Walk.ensures j) (c.table_number-in-Walk.ensures j) (c.word-in-Walk.ensures j) (c.word-in-Walk-2.ensures j) c.in-Walk.nodes.value)
-    ∙ sym (kernel_walk (table_names scope.tables.now) (variables scope.chain.now) c.args.s.now _ _ _ _ _ (ap out-StmtKind c.in-Walk.is ∙ outs-Walk _ _ _ _ _))
 
 pub kernel-returns-in_ok-list-in-Reply : goal.kernel-returns-in_ok-list-in-Reply
 kernel-returns-in_ok-list-in-Reply t c =

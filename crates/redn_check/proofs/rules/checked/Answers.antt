@@ -3,7 +3,7 @@ use Rattle.std.proofs.lemmas.Option.{same_Some}
 use Rattle.redn_check.specs.declared.fault.CheckFault.TheVariants.{Rule}
 use Rattle.redn_check.specs.Faults.{fault, first_of}
 use Rattle.redn_check.specs.Rules.{faults}
-use Rattle.redn_check.proofs.First.{first_is, first_only, first_none, on_ok}
+use Rattle.redn_check.proofs.Earliest.{first_is, first_only, first_none, on_ok}
 use Rattle.redn_check.proofs.rules.checked.Goals as goal
 
 pub returns-in-Some-clause-rule : goal.returns-in-Some-clause-rule

@@ -5,7 +5,7 @@ use Rattle.redn_check.specs.Faults.{first_of}
 use Rattle.redn_check.specs.Names.{table_names, chain_names}
 use Rattle.redn_check.specs.Rules.{twice, one_too_many, table_faults, chain_faults, weights, too_heavy}
 use Rattle.redn_check.specs.Statements.{with_earlier}
-use Rattle.redn_check.proofs.Firsts.{stepped, first_of-append}
+use Rattle.redn_check.proofs.EarliestOf.{stepped, first_of-append}
 use Rattle.redn_check.proofs.rules.first_fault.Goals as goal
 
 pub returns : goal.returns

@@ -5,7 +5,7 @@ use Rattle.redn_check.specs.Faults.{first_of}
 use Rattle.redn_check.specs.Names.{variables}
 use Rattle.redn_check.specs.Rules.{twice, one_too_many, statement_faults, control_faults}
 use Rattle.redn_check.specs.Statements.{each_of}
-use Rattle.redn_check.proofs.Firsts.{stepped, first_of-append}
+use Rattle.redn_check.proofs.EarliestOf.{stepped, first_of-append}
 use Rattle.redn_check.proofs.rules.first_in_chain.Goals as goal
 
 pub returns : goal.returns

@@ -1,7 +1,7 @@
 use Rattle.std.proofs.Common.{◌∙◌, ap}
 use Rattle.redn_check.specs.Faults.{first_of}
 use Rattle.redn_check.specs.Rules.{chain_faults}
-use Rattle.redn_check.proofs.Firsts.{stepped, first_more}
+use Rattle.redn_check.proofs.EarliestOf.{stepped, first_more}
 use Rattle.redn_check.proofs.rules.first_in_chains.Goals as goal
 
 pub loop-chain-preserved : goal.loop-chain-preserved

@@ -6,7 +6,7 @@ use Rattle.redn_check.specs.Rules.{statement_faults}
 use Rattle.redn_check.specs.Faults.{first_of}
 use Rattle.redn_check.specs.Statements.{with_inner}
 use Rattle.redn_check.proofs.Gathered.{found_if, found_loop, found_repeat, found_plain, in_body, no_blocks}
-use Rattle.redn_check.proofs.Firsts.{first_more_of, stepped}
+use Rattle.redn_check.proofs.EarliestOf.{first_more_of, stepped}
 use Rattle.redn_check.proofs.statements.+look.Goals as goal
 
 pub first_in-loop-s-preserved : goal.first_in-loop-s-preserved

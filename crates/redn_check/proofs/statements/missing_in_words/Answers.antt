@@ -1,7 +1,7 @@
 use Rattle.std.proofs.Common.{not}
 use Rattle.redn_check.specs.Names.{variables, named, declares}
 use Rattle.redn_check.specs.Faults.{fault, when}
-use Rattle.redn_check.proofs.Firsts.{first_more_of, stepped}
+use Rattle.redn_check.proofs.EarliestOf.{first_more_of, stepped}
 use Rattle.redn_check.proofs.statements.missing_in_words.Goals as goal
 
 pub loop-word-preserved : goal.loop-word-preserved

@@ -2,7 +2,7 @@ use Rattle.std.proofs.Common.{◌++◌}
 use Rattle.redn_check.specs.Names.{variables, table_names}
 use Rattle.redn_check.specs.Rules.{undeclared, variables_in, tables_in, read_only, overwritten, number_faults}
 use Rattle.redn_check.specs.Statements.{layer_of}
-use Rattle.redn_check.proofs.Firsts.{stepped, first_of-append}
+use Rattle.redn_check.proofs.EarliestOf.{stepped, first_of-append}
 use Rattle.redn_check.proofs.statements.own_fault.Goals as goal
 
 pub returns : goal.returns

@@ -7,7 +7,7 @@ use Rattle.redn_kernel.specs.declared.types.Program.{Program}
 use Rattle.redn_image.specs.Rules.{Image}
 use Rattle.redn_image.specs.Faithful.{Faithful}
 use Rattle.redn_compile.specs.FirstImage.{IsSmall, is_variable, first_image}
-use Rattle.redn_compile.proofs.Shapes.{variables_pass}
+use Rattle.redn_compile.proofs.ShapeTests.{variables_pass}
 use Rattle.redn_compile.proofs.Sound.{is_small, its_words, chain_is}
 use Rattle.redn_compile.proofs.FirstFaithful.{first_faithful}
 use Rattle.redn_compile.proofs.image.compile.Goals as goal

@@ -1,6 +1,6 @@
 -- The two tests together say that it is such a chain.
 use Rattle.std.proofs.Common.{◌∙◌, sym}
-use Rattle.redn_compile.proofs.Shapes.{first_chains, chain_parts}
+use Rattle.redn_compile.proofs.ShapeTests.{first_chains, chain_parts}
 use Rattle.redn_compile.proofs.shape.is_first_chain.Goals as goal
 
 pub returns-then-fresh : goal.returns-then-fresh

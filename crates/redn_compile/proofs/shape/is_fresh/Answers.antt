@@ -1,6 +1,6 @@
 -- As many zeros as arguments.
 use Rattle.std.proofs.Common.{◌∙◌, sym}
-use Rattle.redn_compile.proofs.Shapes.{fresh_are, fresh_pass}
+use Rattle.redn_compile.proofs.ShapeTests.{fresh_are, fresh_pass}
 use Rattle.redn_compile.proofs.shape.is_fresh.Goals as goal
 
 pub returns-then-from-firsts : goal.returns-then-from-firsts

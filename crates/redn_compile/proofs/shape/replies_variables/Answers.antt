@@ -1,5 +1,5 @@
 -- The words of a reply are all variables exactly where the test says so.
-use Rattle.redn_compile.proofs.Shapes.{replies}
+use Rattle.redn_compile.proofs.ShapeTests.{replies}
 use Rattle.redn_compile.proofs.shape.replies_variables.Goals as goal
 
 pub returns-in-Some : goal.returns-in-Some

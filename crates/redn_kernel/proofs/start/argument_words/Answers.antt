@@ -1,6 +1,6 @@
 use Rattle.std.proofs.Common.{◌++◌, ◌∷◌, [], sym, ap, ◌∙◌}
-use Rattle.redn_kernel.specs.Source.{argument_words}
-use Rattle.redn_kernel.proofs.Arguments.{words_more}
+use Rattle.redn_words.specs.Arguments.{argument_words}
+use Rattle.redn_words.proofs.Arguments.{words_more}
 use Rattle.redn_kernel.proofs.start.argument_words.Goals as goal
 
 pub loop-i-preserved : goal.loop-i-preserved

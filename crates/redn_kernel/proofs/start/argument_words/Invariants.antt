@@ -1,5 +1,5 @@
 use Rattle.std.proofs.Common.{◌≡◌}
-use Rattle.redn_kernel.specs.Source.{argument_words}
+use Rattle.redn_words.specs.Arguments.{argument_words}
 use Rattle.redn_kernel.proofs.start.argument_words.Given as goal
 
 -- those so far

@@ -1,7 +1,8 @@
 use Rattle.std.proofs.Common.{List, ℕ, Vec, Global, sym, ap, ◌∙◌}
 use Rattle.std.specs.Prelude.{slice_get}
 use Rattle.redn_kernel.specs.declared.start.StartFault.{StartFault}
-use Rattle.redn_kernel.proofs.Misfits.{misfits_kept, first_here, none_here}
+use Rattle.redn_words.proofs.Misfits.{first_here, none_here}
+use Rattle.redn_kernel.proofs.Misfits.{misfits_kept}
 use Rattle.redn_kernel.proofs.start.first_misfit.Goals as goal
 
 pub returns-then-is_some : goal.returns-then-is_some

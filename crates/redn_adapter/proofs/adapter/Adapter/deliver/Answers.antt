@@ -12,7 +12,7 @@ use Rattle.redn_adapter.proofs.adapter.Adapter.deliver.Goals as goal
 pub returns-clause-next : goal.returns-clause-next
 returns-clause-next c =
     let a = c.self.inside in
-    let s : State = record { regions = a.regions.items; receives = a.receives.items; memory = a.memory.items; queues = a.queues.items; chains = a.chains.items } in
+    let s : State = record { regions = a.regions; receives = a.receives.items; memory = a.memory.items; queues = a.queues.items; chains = a.chains.items } in
     let n = c.args.chain in
     let place = c.index.result.now in
     let chain = c.index-2.result.now in

@@ -15,13 +15,13 @@ use Rattle.redn_adapter.proofs.adapter.Adapter.land.Goals.{After-land_request}
 
 -- the state before, by the fields
 before : (c : After-land_request) → State
-before c = let a = c.self.inside in record { regions = a.regions.items; receives = a.receives.items; memory = a.memory.items; queues = a.queues.items; chains = a.chains.items }
+before c = let a = c.self.inside in record { regions = a.regions; receives = a.receives.items; memory = a.memory.items; queues = a.queues.items; chains = a.chains.items }
 
 there : (c : After-land_request) → c.args.queue < length c.self.inside.queues.items
 there c = queue_there _ c.args.queue c.args.index (rw (← c.self.view_is) at c.requires.possible)
 
 answered : After-land_request → Landing
-answered c = lands c.self.inside.regions.items (record { chain = c.row-chain.result.domain; queue = c.args.queue; index = c.args.index }) c.self.inside.memory.items c.decode-r.result c.opcode.result
+answered c = lands c.self.inside.regions (record { chain = c.row-chain.result.domain; queue = c.args.queue; index = c.args.index }) c.self.inside.memory.items c.decode-r.result c.opcode.result
 
 facts : (c : After-land_request) → IsLandingAt (before c) c.args.queue c.args.index c.index-u.result.now (with_items c.self.inside.memory c.land_request.new.mem).items (answered c)
 unfolding before answered
@@ -32,13 +32,13 @@ facts c =
       copy = c.in-Some.copy;
       queue = read_at a.queues.items c.args.queue u (there c) c.index-u.ensures;
       flies = sym c.flying.ensures ∙ c.in-Some.is;
-      same = rw (c.row-chain.ensures, c.opcode.ensures, c.decode-r.ensures) refl;
-      memory = with_items_is a.memory c.land_request.new.mem (c.land_request.auto.mem ∙ c.deref_mut.ensures.len) ∙ c.land_request.ensures.memory ∙ rw (c.deref.ensures.value, c.deref_mut.ensures.value) refl;
+      same = rw (c.row-chain.ensures, c.opcode.ensures, c.decode-r.ensures.fields) refl;
+      memory = with_items_is a.memory c.land_request.new.mem (c.land_request.auto.mem ∙ c.deref_mut.ensures.len) ∙ c.land_request.ensures.memory ∙ rw c.deref_mut.ensures.value refl;
     }
 
 said : (c : After-land_request) → c.land_request.result ≡ answer_of (answered c)
 unfolding answered
-said c = c.land_request.ensures.answer ∙ rw (c.deref.ensures.value, c.deref_mut.ensures.value) refl
+said c = c.land_request.ensures.answer ∙ rw c.deref_mut.ensures.value refl
 
 -- the same queue is read twice
 module _ (c : After-land_request) (v : Queue) (e : v ≡ get_or c.self.inside.queues.items c.args.queue v) where

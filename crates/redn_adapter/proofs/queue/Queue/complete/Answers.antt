@@ -1,7 +1,7 @@
 use Rattle.std.proofs.Common.{◌<◌, arith}
 use Rattle.std.proofs.lemmas.List.Elements.{All-drop}
 use Rattle.redn_words.specs.declared.types.Flight.{Flight}
-use Rattle.redn_adapter.proofs.Flying.{IsRising-drop}
+use Rattle.redn_words.proofs.Flights.{IsRising-drop}
 use Rattle.redn_adapter.proofs.queue.Queue.complete.Goals as goal
 
 pub invariant_of-self : goal.invariant_of-self

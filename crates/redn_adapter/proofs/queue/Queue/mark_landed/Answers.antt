@@ -1,8 +1,9 @@
-use Rattle.std.proofs.Common.{◌≡◌, List, ap, ◌∙◌, sym, get_or, set, true}
-use Rattle.std.proofs.lemmas.List.{get_or_read}
+use Rattle.std.proofs.Common.{◌≡◌, List, ap, ◌∙◌, sym, subst, get_or, set, true}
 use Rattle.redn_words.specs.declared.types.Flight.{Flight}
 use Rattle.redn_adapter.specs.Pools.{copies_in}
-use Rattle.redn_adapter.proofs.Flying.{stands_at, none_stands, IsRising-set, AllBelow-set}
+use Rattle.redn_words.specs.InOrder.{IsRising, AllBelow}
+use Rattle.redn_words.proofs.Flights.{IsRising-landed, AllBelow-landed}
+use Rattle.redn_adapter.proofs.Flying.{stands_at, none_stands}
 use Rattle.redn_adapter.proofs.queue.Queue.mark_landed.Goals as goal
 
 pub returns-in-Some : goal.returns-in-Some
@@ -25,11 +26,13 @@ pub invariant_of-self : goal.invariant_of-self
 invariant_of-self c =
     let a = c.self.inside in
     let s = stands_at c.args.index a.flights.items c.in-Some.place (sym c.place_of-found.ensures ∙ c.in-Some.is) in
-    let keeps = λ (d : Flight). ap (λ (f : Flight). f.index) (get_or_read a.flights.items c.in-Some.place c.index_mut.result.now s.within c.index_mut.ensures.value d) in
+    let f = c.index_mut.result.now in
+    let read : f ≡ get_or a.flights.items c.in-Some.place f = c.index_mut.ensures.value in
+    let is = s.landed f ∙ ap (λ (g : Flight). set a.flights.items c.in-Some.place (record { index = g.index; copy = g.copy; landed = true })) (sym read) in
     record {
       places = c.self.invariant.places;
       room = c.self.invariant.room;
       size = c.self.invariant.size;
-      rising = IsRising-set a.flights.items c.in-Some.place _ keeps c.self.invariant.rising;
-      below = AllBelow-set a.flights.items c.in-Some.place _ keeps a.head c.self.invariant.below;
+      rising = subst IsRising is (IsRising-landed c.args.index a.flights.items c.self.invariant.rising);
+      below = subst (AllBelow a.head) is (AllBelow-landed c.args.index a.head a.flights.items c.self.invariant.below);
     }

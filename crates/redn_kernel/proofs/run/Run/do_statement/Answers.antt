@@ -18,8 +18,8 @@ do_add-requires-clause-there c = (statements.add_named _ _ c.requires.usable _ _
 pub do_add-requires-clause-named : goal.do_add-requires-clause-named
 do_add-requires-clause-named c = (statements.add_named _ _ c.requires.usable _ _ c.in-Add.is).1
 
-pub value-offset-requires : goal.value-offset-requires
-value-offset-requires c = (statements.load_named _ _ c.requires.usable _ _ _ c.in-Load.is).1
+pub value-requires : goal.value-requires
+value-requires c = (statements.load_named _ _ c.requires.usable _ _ _ c.in-Load.is).1
 
 pub load-requires-clause-there : goal.load-requires-clause-there
 load-requires-clause-there c = (statements.load_named _ _ c.requires.usable _ _ _ c.in-Load.is).0
@@ -97,7 +97,7 @@ pub returns-in-Add-clause-turn : goal.returns-in-Add-clause-turn
 returns-in-Add-clause-turn c = does.adds c.args.chain _ (run_view c.args.self.now) c.args.statement.now (behind c.args.self.now) _ _ _ c.in-Add.is (c.do_add.ensures.turn _)
 
 pub returns-in-Load-clause-turn : goal.returns-in-Load-clause-turn
-returns-in-Load-clause-turn c = does.loads_there c.args.chain _ (run_view c.args.self.now) c.args.statement.now (behind c.args.self.now) _ _ _ _ _ c.in-Load.is c.value-offset.ensures c.load.ensures.turn
+returns-in-Load-clause-turn c = does.loads_there c.args.chain _ (run_view c.args.self.now) c.args.statement.now (behind c.args.self.now) _ _ _ _ _ c.in-Load.is c.value.ensures c.load.ensures.turn
 
 pub returns-in-Store-clause-turn : goal.returns-in-Store-clause-turn
 returns-in-Store-clause-turn c = does.stores_there c.args.chain _ (run_view c.args.self.now) c.args.statement.now (behind c.args.self.now) _ _ _ _ c.in-Store.is c.do_store.ensures.turn

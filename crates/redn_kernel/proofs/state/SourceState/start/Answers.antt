@@ -5,7 +5,8 @@ use Rattle.redn_kernel.specs.Source.{Source, ChainState, source_start}
 use Rattle.redn_kernel.specs.RunView.{run_view}
 use Rattle.redn_kernel.specs.Starting.{misfits}
 use Rattle.redn_kernel.proofs.Fresh.{length-fresh_chains}
-use Rattle.redn_kernel.proofs.Misfits.{none_first, all_fit}
+use Rattle.redn_words.proofs.Misfits.{none_first}
+use Rattle.redn_kernel.proofs.Misfits.{all_fit}
 use Rattle.redn_kernel.proofs.state.SourceState.start.Goals as goal
 use Rattle.redn_kernel.proofs.state.SourceState.start.Goals.{In_default}
 

@@ -1,0 +1,33 @@
+use Rattle.std.proofs.Common.{ap, ◌∙◌, ◌≤◌, arith}
+use Rattle.redn_syntax.specs.declared.tree.StmtKind.{out-StmtKind, the_lemmas}
+use Rattle.redn_syntax.specs.declared.tree.Stmt as q
+use Rattle.redn_syntax.specs.declared.tree.StmtKind.TheVariants.{outs-If, outs-Loop, outs-Repeat, outs-Move, outs-Add, outs-Load, outs-Store, outs-Break, outs-Lookup, outs-Walk, outs-Reply}
+use Rattle.redn_kernel.specs.declared.types.Kernel.TheVariants as k
+use Rattle.redn_check.specs.Names.{table_names, variables}
+use Rattle.redn_check.specs.Numbering.{kernel_of, word_of}
+use Rattle.redn_check.specs.Rules.{number_faults}
+use Rattle.redn_check.proofs.Numbered.{none_met, none_unmet, none_loop, none_repeat, none_at, count_fits, probes_fit, nodes_fit, kernel_move, kernel_add, kernel_load, kernel_store, kernel_if, kernel_loop, kernel_repeat, kernel_break, kernel_lookup, kernel_walk, kernel_reply}
+use Rattle.redn_check.proofs.Gathered.{in_body}
+use Rattle.redn_check.proofs.number.search.Goals as goal
+
+pub overflow_cast-result : goal.overflow_cast-result
+overflow_cast-result c =
+    let fits : c.in-Lookup.probes.value ≤ 4 = probes_fit c.args.s.now c.requires.kept _ _ _ _ _ (ap out-StmtKind c.in-Lookup.is ∙ outs-Lookup _ _ _ _ _) in
+    omega arith
+
+pub overflow_cast-result-in-Walk : goal.overflow_cast-result-in-Walk
+overflow_cast-result-in-Walk c =
+    let fits : c.in-Walk.nodes.value ≤ 65535 = nodes_fit c.args.s.now c.requires.kept _ _ _ _ _ (ap out-StmtKind c.in-Walk.is ∙ outs-Walk _ _ _ _ _) in
+    omega arith
+
+pub returns-in-Lookup : goal.returns-in-Lookup
+returns-in-Lookup c =
+    let scope = c.args.numbers.now.scope in
+    let is = kernel_lookup (table_names scope.tables.now) (variables scope.chain.now) c.args.s.now _ _ _ _ _ (ap out-StmtKind c.in-Lookup.is ∙ outs-Lookup _ _ _ _ _) in
+    cc
+
+pub returns-in-Walk : goal.returns-in-Walk
+returns-in-Walk c =
+    let scope = c.args.numbers.now.scope in
+    let is = kernel_walk (table_names scope.tables.now) (variables scope.chain.now) c.args.s.now _ _ _ _ _ (ap out-StmtKind c.in-Walk.is ∙ outs-Walk _ _ _ _ _) in
+    cc

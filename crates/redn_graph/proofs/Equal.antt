@@ -1,0 +1,361 @@
+-- Blocks that follow a chain are equal to it up to silence.
+use Rattle.std.proofs.Common.{◌≡◌, ℕ, zero, suc, ◌<◌, ◌≤◌, ◌⊎◌, inl, inr, Bool, true, false, if◌then◌else◌, List, [], ◌∷◌, ◌++◌, length, replicate, Option, Some, None, refl, sym, ap, ◌∙◌, subst, arith}
+use Rattle.std.specs.Prelude.{slice_get, is_some, not, ◌&&◌}
+use Rattle.std.proofs.lemmas.Option.{slice_get_cases, get_or_from_slice_get}
+use Rattle.redn_words.specs.declared.types.Obs.{Obs}
+use Rattle.redn_words.specs.declared.types.Obs.TheVariants as shows
+use Rattle.redn_kernel.specs.declared.types.TableInit.{TableInit}
+use Rattle.redn_kernel.specs.declared.types.ChainInit.{ChainInit}
+use Rattle.redn_kernel.specs.declared.types.Cell.TheVariants as cell
+use Rattle.redn_kernel.specs.declared.types.Cell.{Cell}
+use Rattle.redn_kernel.specs.Source.{ChainState, Turn, first_does, chain_runs, has_word}
+use Rattle.redn_kernel.specs.Steps.{Steps, unchanged}
+use Rattle.redn_kernel.specs.CoreRun.{Cells}
+use Rattle.redn_graph.specs.declared.types.Instr.{Instr}
+use Rattle.redn_graph.specs.declared.types.Instr.TheVariants.{Set, Move, Add, Load, Store}
+use Rattle.redn_graph.specs.declared.types.End.{End}
+use Rattle.redn_graph.specs.declared.types.End.TheVariants.{Jump, Test48, Test64, Probe, Reply}
+use Rattle.redn_graph.specs.declared.types.Block.{Block}
+use Rattle.redn_graph.specs.declared.types.Graph.{Graph}
+use Rattle.redn_graph.specs.Run.{GraphState, GraphTurn, Effect, Way, On, Taking, To, Out, graph_step, graph_start, graph_turn, block_turn, block_cost, instr_or_end, instr_or_end_cost, state_on, step_cost, instr_does, end_does, instr_cost, end_cost, add_cost, stays}
+use Rattle.redn_graph.specs.Follows.{Follows, IsMatched, turn_by, chain_start}
+use Rattle.redn_graph.specs.Along.{state_along}
+use Rattle.redn_graph.specs.Fits.{Things, FitsEnd, FitsBlock, FitsGraph, things_of}
+use Rattle.redn_graph.specs.Silence.{Feed, seen_then, chain_turn, chain_after, chain_seen, graph_seen, EqualUpToSilence}
+use Rattle.redn_graph.proofs.Places.{goes_on_or_out}
+use Rattle.redn_graph.proofs.Quiet.{is_nothing, nothing_or, not_nothing, goes_on, Quiet, quiet_run, quiet_vars, Loud, split, running_turn, seen_step, after_step, quiet_seen, quiet_after, first_content, content_step, Remains, remains}
+
+bool_or : (b : Bool) → (b ≡ true) ⊎ (b ≡ false)
+bool_or true = inl refl
+bool_or false = inr refl
+
+zero_or : (n : ℕ) → (n ≡ 0) ⊎ (1 ≤ n)
+zero_or zero = inl refl
+zero_or (suc n) = inr (omega arith)
+
+ended_stops : (t : ChainState) → t.ended ≡ true → chain_runs t ≡ false
+ended_stops t e = by_message t.message
+  where
+    by_message : (m : Option (List ℕ)) → (is_some m && not t.ended) ≡ false
+    by_message None = refl
+    by_message (Some words) = ap not e
+
+-- what a step of the blocks is seen to do some feed of the chain is
+record Fed (c : ℕ) (tables : List (List ℕ)) (t : ChainState) (turn : Turn) (feed : Feed) : Type 0 where
+  pub whole : Feed
+  pub seen : chain_seen c whole t ≡ seen_then tables turn.event (chain_seen c feed turn.chain)
+  pub after : chain_after c whole t ≡ chain_after c feed turn.chain
+
+fed : (c n : ℕ) (tables : List (List ℕ)) (t : ChainState) (turn : Turn) (feed : Feed) → Steps c tables t n turn → Fed c tables t turn feed
+fed c n tables t turn feed steps =
+    elim (split c n tables t turn steps) [
+      | inl quiet ↦ record {
+        whole = replicate n tables ++ feed;
+        seen = quiet_seen c n tables feed t turn.chain quiet.0 ∙ sym (ap (λ (e : Obs). seen_then tables e (chain_seen c feed turn.chain)) quiet.1);
+        after = quiet_after c n tables feed t turn.chain quiet.0;
+      }
+      | inr loud ↦
+          let rest : Feed = replicate loud.after tables ++ feed in
+          let does : Turn = first_does c tables loud.mid loud.mid.items in
+          let is = running_turn c tables loud.mid loud.running in
+          record {
+            whole = replicate loud.before tables ++ (tables ∷ rest);
+            seen =
+                quiet_seen c loud.before tables (tables ∷ rest) t loud.mid loud.quiet ∙ seen_step c tables rest loud.mid does is
+                ∙ ap (seen_then tables does.event) (quiet_seen c loud.after tables feed does.chain turn.chain loud.rest)
+                ∙ ap (λ (e : Obs). seen_then tables e (chain_seen c feed turn.chain)) (sym loud.shown);
+            after = quiet_after c loud.before tables (tables ∷ rest) t loud.mid loud.quiet ∙ after_step c tables rest loud.mid does is ∙ quiet_after c loud.after tables feed does.chain turn.chain loud.rest;
+          }
+    ]
+
+-- a chain that isn't running stays as it is
+stopped : (c : ℕ) (feed : Feed) (t : ChainState) → chain_runs t ≡ false → (chain_seen c feed t ≡ []) × (chain_after c feed t ≡ t)
+stopped c [] t e = (refl, refl)
+stopped c (tables ∷ feed) t e =
+    let is : chain_turn c tables t ≡ unchanged tables t = ap (λ (b : Bool). if b then first_does c tables t t.items else unchanged tables t) e in
+    let more = stopped c feed t e in
+    (seen_step c tables feed t _ is ∙ more.0, after_step c tables feed t _ is ∙ more.1)
+
+-- a feed of the chain goes on behind a step of the blocks on the contents of its first step that shows something, or shows nothing more
+record GoesBehind (c n : ℕ) (feed : Feed) (t : ChainState) (turn : Turn) : Type 0 where
+  pub feed_left : Feed
+  pub seen : chain_seen c feed t ≡ seen_then (first_content c feed t) turn.event (chain_seen c feed_left turn.chain)
+  pub vars : (chain_after c feed t).vars ≡ (chain_after c feed_left turn.chain).vars
+  pub shorter : length feed_left ≤ length feed
+  pub less : 1 ≤ n → 1 ≤ length feed → length feed_left < length feed
+
+abbrev ShowsNoMore : ℕ → Feed → ChainState → Type 0
+ShowsNoMore c feed t = (chain_seen c feed t ≡ []) × ((chain_after c feed t).vars ≡ t.vars)
+
+module _ (c n : ℕ) (feed : Feed) (t : ChainState) (turn : Turn) where
+  abbrev best : List (List ℕ)
+  best = first_content c feed t
+
+  past_loud : (loud : Loud c best t n turn) (r : Remains c loud.before feed t loud.mid) (left : Feed) → r.feed_left ≡ left → GoesBehind c n feed t turn ⊎ ShowsNoMore c feed t
+  past_loud loud r [] is =
+      inr (r.seen ∙ ap (λ (list : Feed). chain_seen c list loud.mid) is, r.vars ∙ ap (λ (list : Feed). (chain_after c list loud.mid).vars) is ∙ quiet_vars c loud.before t loud.mid loud.quiet)
+  past_loud loud r (tables ∷ left) is =
+      let does : List (List ℕ) → Turn = λ list. first_does c list loud.mid loud.mid.items in
+      let runs = running_turn c tables loud.mid loud.running in
+      let loud_there : is_nothing (does tables).event ≡ false =
+      elim (nothing_or (does tables).event) [
+        | inr other ↦ other
+        | inl none ↦
+            let go = goes_on c tables loud.mid loud.mid.items none in
+            not_nothing turn.event loud.loud (loud.shown ∙ ap (λ (u : Turn). u.event) (go.same best))
+      ]
+      in
+      let same : best ≡ tables =
+      r.content ∙ ap (λ (list : Feed). first_content c list loud.mid) is ∙ content_step c tables left loud.mid _ runs ∙ ap (λ (b : Bool). if b then first_content c left (does tables).chain else tables) loud_there
+      in
+      let quiet = subst (λ (list : List (List ℕ)). Quiet c loud.after (does list).chain turn.chain) same loud.rest in
+      let rest = remains c loud.after left (does tables).chain turn.chain quiet in
+      let fewer : length (tables ∷ left) ≤ length feed = subst (λ (list : Feed). length list ≤ length feed) is r.shorter in
+      inl (record {
+        feed_left = rest.feed_left;
+        seen =
+            r.seen ∙ ap (λ (list : Feed). chain_seen c list loud.mid) is ∙ seen_step c tables left loud.mid _ runs
+            ∙ ap (seen_then tables (does tables).event) rest.seen
+            ∙ ap (λ (list : List (List ℕ)). seen_then list (does list).event (chain_seen c rest.feed_left turn.chain)) (sym same)
+            ∙ ap (λ (e : Obs). seen_then best e (chain_seen c rest.feed_left turn.chain)) (sym loud.shown);
+        vars = r.vars ∙ ap (λ (list : Feed). (chain_after c list loud.mid).vars) is ∙ ap (λ (v : ChainState). v.vars) (after_step c tables left loud.mid _ runs) ∙ rest.vars;
+        shorter = omega (arith, rest.shorter, fewer);
+        less = λ some h. omega (arith, rest.shorter, fewer);
+      })
+
+  behind : Steps c best t n turn → GoesBehind c n feed t turn ⊎ ShowsNoMore c feed t
+  behind steps =
+      elim (split c n best t turn steps) [
+        | inl quiet ↦
+            let r = remains c n feed t turn.chain quiet.0 in
+            inl (record {
+              feed_left = r.feed_left;
+              seen = r.seen ∙ sym (ap (λ (e : Obs). seen_then best e (chain_seen c r.feed_left turn.chain)) quiet.1);
+              vars = r.vars;
+              shorter = r.shorter;
+              less = r.less;
+            })
+        | inr loud ↦ let r = remains c loud.before feed t loud.mid loud.quiet in past_loud loud r r.feed_left refl
+      ]
+
+module _ (tables_of : List TableInit) (chain : ChainInit) (g : Graph) (f : Follows chain g) (fits : FitsGraph tables_of chain g) (c : ℕ) (words : List ℕ) where
+  abbrev here : GraphState → ChainState
+  here = f.here words
+
+  abbrev count : ℕ
+  count = length g.blocks
+
+  -- an end leads to blocks that are there
+  within_block : (n : Things) (x : GraphState) (b : Bool) (one other : Effect) → (state_on x one.cells one.way).block < n.blocks → (state_on x other.cells other.way).block < n.blocks → (let e : Effect = if b then one else other in (state_on x e.cells e.way).block < n.blocks)
+  within_block n x true one other h k = h
+  within_block n x false one other h k = k
+
+  one_of : (n : Things) (b : Bool) (l r : ℕ) → l < n.blocks → r < n.blocks → (if b then l else r) < n.blocks
+  one_of n true l r h k = h
+  one_of n false l r h k = k
+
+  looked_block : (n : Things) (x : GraphState) (b : Bool) (s : Cells) (miss : ℕ) → x.block < n.blocks → miss < n.blocks → (state_on x s (if b then Taking else To miss)).block < n.blocks
+  looked_block n x true s miss h k = h
+  looked_block n x false s miss h k = k
+
+  end_block : (n : Things) (tables : List (List ℕ)) (x : GraphState) (taking : Bool) (end : End) → x.block < n.blocks → FitsEnd n end → (let e : Effect = end_does c words tables x.cells taking end in (state_on x e.cells e.way).block < n.blocks)
+  unfolding end_does
+  end_block n tables x taking (Jump to) at h = h
+  end_block n tables x taking (Test48 left right met unmet) at h = one_of n _ met unmet h.2 h.3
+  end_block n tables x taking (Test64 left right met unmet) at h = one_of n _ met unmet h.2 h.3
+  end_block n tables x false (Probe to table offset key hit miss) at h = within_block n x (has_word tables table _) _ _ (looked_block n x _ x.cells miss at h.5) at
+  end_block n tables x true (Probe to table offset key hit miss) at h = within_block n x (has_word tables table _) _ _ h.4 at
+  end_block n tables x taking (Reply cells) at h = at
+
+  on_or_out : (x : GraphState) (e : Effect) → (e.way ≡ On) ⊎ (e.way ≡ Out) → x.block < count → (state_on x e.cells e.way).block < count
+  on_or_out x e (inl on) at = subst (λ (w : Way). (state_on x e.cells w).block < count) (sym on) at
+  on_or_out x e (inr out) at = subst (λ (w : Way). (state_on x e.cells w).block < count) (sym out) at
+
+  place_block : (tables : List (List ℕ)) (x : GraphState) (o : Option Instr) (end : End) → x.block < count → FitsEnd (things_of tables_of chain g) end → (let e : Effect = instr_or_end c words tables x o end in (state_on x e.cells e.way).block < count)
+  place_block tables x (Some i) end at h = on_or_out x (instr_does c words tables x.cells i) (goes_on_or_out c words tables x.cells i) at
+  place_block tables x None end at h = end_block (things_of tables_of chain g) tables x x.taking end at h
+
+  -- the block of a state
+  record Stands (x : GraphState) : Type 0 where
+    pub block : Block
+    pub there : slice_get g.blocks x.block ≡ Some block
+    pub fitting : FitsBlock (things_of tables_of chain g) block
+
+  stands : (x : GraphState) → x.block < count → Stands x
+  stands x at =
+      elim (slice_get_cases g.blocks x.block).1 [
+        | inl there ↦ record { block = there.0; there = there.2; fitting = subst (FitsBlock (things_of tables_of chain g)) (get_or_from_slice_get g.blocks x.block there.0 there.0 there.2) (fits.each x.block there.0 at) }
+        | inr past ↦ absurd (omega (arith, past.0, at))
+      ]
+
+  step_is : (tables : List (List ℕ)) (x : GraphState) (b : Block) → x.ended ≡ false → slice_get g.blocks x.block ≡ Some b → graph_step c words tables x g ≡ graph_turn x (instr_or_end c words tables x (slice_get b.instrs x.place) b.end)
+  unfolding graph_step
+  step_is tables x b going there = ap (λ (e : Bool). if e then stays tables x else block_turn c words tables x (slice_get g.blocks x.block)) going ∙ ap (block_turn c words tables x) there
+
+  cost_is : (x : GraphState) (b : Block) → x.ended ≡ false → slice_get g.blocks x.block ≡ Some b → step_cost g x ≡ instr_or_end_cost x (slice_get b.instrs x.place) b.end
+  unfolding step_cost
+  cost_is x b going there = ap (λ (e : Bool). if e then 0 else block_cost x (slice_get g.blocks x.block)) going ∙ ap (block_cost x) there
+
+  next_within : (tables : List (List ℕ)) (x : GraphState) → x.ended ≡ false → x.block < count → (graph_step c words tables x g).state.block < count
+  next_within tables x going at =
+      let s = stands x at in
+      let o : Option Instr = slice_get s.block.instrs x.place in
+      subst (λ (turn : GraphTurn). turn.state.block < count) (sym (step_is tables x s.block going s.there)) (place_block tables x o s.block.end at s.fitting.end_fits)
+
+  -- a step costs something or shows something
+  add_pays : (by : Cell) → 1 ≤ add_cost by
+  add_pays (cell.Num n) = omega arith
+  add_pays (cell.Var x) = omega arith
+  add_pays (cell.Hidden k) = omega arith
+  add_pays (cell.Argument i) = omega arith
+
+  instr_pays : (i : Instr) → 1 ≤ instr_cost i
+  unfolding instr_cost
+  instr_pays (Set to v) = omega arith
+  instr_pays (Move to from) = omega arith
+  instr_pays (Add to by) = add_pays by
+  instr_pays (Load to table offset) = omega arith
+  instr_pays (Store table offset from) = omega arith
+
+  either_loud : (b : Bool) (one other : Effect) → is_nothing one.event ≡ false → is_nothing other.event ≡ false → (let e : Effect = if b then one else other in is_nothing e.event ≡ false)
+  either_loud true one other h k = h
+  either_loud false one other h k = k
+
+  load_loud : (tables : List (List ℕ)) (s : Cells) (to : Cell) (table offset hit : ℕ) (offset_cell key : Cell) (miss : ℕ) → is_nothing (end_does c words tables s true (Probe to table offset_cell key hit miss)).event ≡ false
+  unfolding end_does
+  load_loud tables s (cell.Var x) table offset hit offset_cell key miss = either_loud (has_word tables table _) _ _ refl refl
+  load_loud tables s (cell.Hidden x) table offset hit offset_cell key miss = either_loud (has_word tables table _) _ _ refl refl
+  load_loud tables s (cell.Argument x) table offset hit offset_cell key miss = either_loud (has_word tables table _) _ _ refl refl
+  load_loud tables s (cell.Num x) table offset hit offset_cell key miss = either_loud (has_word tables table _) _ _ refl refl
+
+  abbrev PaysOrShows : List (List ℕ) → GraphState → Option Instr → End → Type 0
+  PaysOrShows tables x o end = (1 ≤ instr_or_end_cost x o end) ⊎ (is_nothing (instr_or_end c words tables x o end).event ≡ false)
+
+  end_pays : (tables : List (List ℕ)) (x : GraphState) (taking : Bool) (end : End) → (1 ≤ end_cost taking end) ⊎ (is_nothing (end_does c words tables x.cells taking end).event ≡ false)
+  unfolding end_cost
+  end_pays tables x taking (Jump to) = inl (omega arith)
+  end_pays tables x taking (Test48 left right met unmet) = inl (omega arith)
+  end_pays tables x taking (Test64 left right met unmet) = inl (omega arith)
+  end_pays tables x false (Probe to table offset key hit miss) = inl (omega arith)
+  end_pays tables x true (Probe to table offset key hit miss) = inr (load_loud tables x.cells to table 0 hit offset key miss)
+  end_pays tables x taking (Reply cells) = inl (omega arith)
+
+  place_pays : (tables : List (List ℕ)) (x : GraphState) (o : Option Instr) (end : End) → PaysOrShows tables x o end
+  place_pays tables x (Some i) end = inl (instr_pays i)
+  place_pays tables x None end = end_pays tables x x.taking end
+
+  pays_or_shows : (tables : List (List ℕ)) (x : GraphState) → x.ended ≡ false → x.block < count → (1 ≤ step_cost g x) ⊎ (is_nothing (graph_step c words tables x g).event ≡ false)
+  pays_or_shows tables x going at =
+      let s = stands x at in
+      let o : Option Instr = slice_get s.block.instrs x.place in
+      elim (place_pays tables x o s.block.end) [
+        | inl pays ↦ inl (omega (arith, pays, cost_is x s.block going s.there))
+        | inr loud ↦ inr (subst (λ (turn : GraphTurn). is_nothing turn.event ≡ false) (sym (step_is tables x s.block going s.there)) loud)
+      ]
+
+  -- a feed of the blocks that shows what one of the chain does
+  record Answer (x : GraphState) (feed : Feed) : Type 0 where
+    pub other : Feed
+    pub seen : graph_seen c words g other x ≡ chain_seen c feed (here x)
+    pub vars : (state_along c words g other x).cells.vars ≡ (chain_after c feed (here x)).vars
+
+  answer_none : (x : GraphState) (feed : Feed) → ShowsNoMore c feed (here x) → Answer x feed
+  answer_none x feed h = record { other = []; seen = sym h.0; vars = sym (f.vars words x) ∙ sym h.1 }
+
+  answer_more : (x : GraphState) (feed : Feed) (n : ℕ) → (b : GoesBehind c n feed (here x) (turn_by here (graph_step c words (first_content c feed (here x)) x g))) → Answer (graph_step c words (first_content c feed (here x)) x g).state b.feed_left → Answer x feed
+  answer_more x feed n b a =
+      let tables = first_content c feed (here x) in
+      record {
+        other = tables ∷ a.other;
+        seen = ap (seen_then tables (graph_step c words tables x g).event) a.seen ∙ sym b.seen;
+        vars = a.vars ∙ sym b.vars;
+      }
+
+  answer_ended : (x : GraphState) (feed : Feed) → x.ended ≡ true → Answer x feed
+  answer_ended x feed over =
+      let not_running : chain_runs (here x) ≡ false = ended_stops (here x) (f.ended words x ∙ over) in
+      let s = stopped c feed (here x) not_running in
+      answer_none x feed (s.0, ap (λ (t : ChainState). t.vars) s.1)
+
+  abbrev Shorter : ℕ → Type 0
+  Shorter k = (x : GraphState) (feed : Feed) → x.block < count → length feed < k → Answer x feed
+
+  ended_or : (x : GraphState) → (x.ended ≡ true) ⊎ (x.ended ≡ false)
+  ended_or x = bool_or x.ended
+
+  no_steps : (x : GraphState) (feed : Feed) (m : IsMatched c words g here f.worth (first_content c feed (here x)) x) → m.count ≡ 0 → (graph_step c words (first_content c feed (here x)) x g).event ≡ shows.Nothing
+  no_steps x feed m none =
+      let tables = first_content c feed (here x) in
+      ap (λ (turn : Turn). turn.event) (subst (λ (n : ℕ). Steps c tables (here x) n (turn_by here (graph_step c words tables x g))) none m.steps)
+
+  round : (k w : ℕ) → Shorter k → ((x : GraphState) (feed : Feed) → x.block < count → length feed ≤ k → f.worth x < w → Answer x feed) → (x : GraphState) (feed : Feed) → x.block < count → 1 ≤ length feed → length feed ≤ k → f.worth x ≤ w → x.ended ≡ false → Answer x feed
+  round k w shorter poorer x feed at some few worth going =
+      let tables = first_content c feed (here x) in
+      let m = f.matched c words tables x in
+      let next = (graph_step c words tables x g).state in
+      let there = next_within tables x going at in
+      elim (behind c m.count feed (here x) (turn_by here (graph_step c words tables x g)) m.steps) [
+        | inr no_more ↦ answer_none x feed no_more
+        | inl b ↦
+            elim (zero_or m.count) [
+              | inr moves ↦ answer_more x feed m.count b (shorter next b.feed_left there (omega (arith, b.less moves some, few)))
+              | inl none ↦
+                  let pays : 1 ≤ step_cost g x =
+                  elim (pays_or_shows tables x going at) [ inl pays ↦ pays | inr loud ↦ not_nothing _ loud (no_steps x feed m none) ]
+                  in
+                  answer_more x feed m.count b (poorer next b.feed_left there (omega (arith, b.shorter, few)) (omega (arith, m.paid, none, pays, worth)))
+            ]
+      ]
+
+  answer_at : (k : ℕ) → Shorter k → (w : ℕ) (x : GraphState) (feed : Feed) → x.block < count → length feed ≤ k → f.worth x < w → Answer x feed
+  answer_at k shorter zero x feed at few worth = absurd (omega (arith, worth))
+  answer_at k shorter (suc w) x [] at few worth = answer_none x [] (refl, refl)
+  answer_at k shorter (suc w) x (tables ∷ feed) at few worth =
+      elim (ended_or x) [
+        | inl over ↦ answer_ended x (tables ∷ feed) over
+        | inr going ↦ round k w shorter (answer_at k shorter w) x (tables ∷ feed) at (omega arith) few (omega (arith, worth)) going
+      ]
+
+  answer : (k : ℕ) → Shorter k
+  answer zero x feed at few = absurd (omega (arith, few))
+  answer (suc k) x feed at few = answer_at k (answer k) (suc (f.worth x)) x feed at (omega (arith, few)) (omega arith)
+
+  abbrev first : GraphState
+  first = graph_start g chain.vars
+
+  pub blocks_match : (feed : Feed) → (other : Feed)
+      × (graph_seen c words g other first ≡ chain_seen c feed (chain_start chain words))
+      × ((state_along c words g other first).cells.vars ≡ (chain_after c feed (chain_start chain words)).vars)
+  blocks_match feed =
+      let start = f.starts c words [] in
+      let quiet = quiet_run c start.0 [] (chain_start chain words) (unchanged [] (here first)) start.1 refl in
+      let r = remains c start.0 feed (chain_start chain words) (here first) quiet in
+      let a = answer (suc (length r.feed_left)) first r.feed_left fits.entry (omega arith) in
+      (a.other, a.seen ∙ sym r.seen, a.vars ∙ sym r.vars)
+
+  -- a feed of the chain for one of the blocks
+  record Follower (x : GraphState) (feed : Feed) : Type 0 where
+    pub other : Feed
+    pub seen : chain_seen c other (here x) ≡ graph_seen c words g feed x
+    pub vars : (chain_after c other (here x)).vars ≡ (state_along c words g feed x).cells.vars
+
+  follower : (feed : Feed) (x : GraphState) → Follower x feed
+  follower [] x = record { other = []; seen = refl; vars = f.vars words x }
+  follower (tables ∷ feed) x =
+      let m = f.matched c words tables x in
+      let turn = graph_step c words tables x g in
+      let more = follower feed turn.state in
+      let h = fed c m.count tables (here x) (turn_by here turn) more.other m.steps in
+      record { other = h.whole; seen = h.seen ∙ ap (seen_then tables turn.event) more.seen; vars = ap (λ (t : ChainState). t.vars) h.after ∙ more.vars }
+
+  pub chain_matches : (feed : Feed) → (other : Feed)
+      × (chain_seen c other (chain_start chain words) ≡ graph_seen c words g feed first)
+      × ((chain_after c other (chain_start chain words)).vars ≡ (state_along c words g feed first).cells.vars)
+  chain_matches feed =
+      let start = f.starts c words [] in
+      let more = follower feed first in
+      let h = fed c start.0 [] (chain_start chain words) (unchanged [] (here first)) more.other start.1 in
+      (h.whole, h.seen ∙ more.seen, ap (λ (t : ChainState). t.vars) h.after ∙ more.vars)
+
+pub equal_up_to_silence : (tables : List TableInit) (chain : ChainInit) (g : Graph) → Follows chain g → FitsGraph tables chain g → EqualUpToSilence chain g
+equal_up_to_silence tables chain g f fits = (λ c words feed. chain_matches tables chain g f fits c words feed, λ c words feed. blocks_match tables chain g f fits c words feed)

@@ -1,0 +1,563 @@
+use Rattle.std.proofs.Common.{ℕ, drop, ◌≤◌, ◌+◌, List, [], ◌∷◌, length, length-append, map, sym, ap, ◌∙◌, subst, arith}
+use Rattle.redn_kernel.specs.declared.types.Kernel.{Kernel}
+use Rattle.redn_kernel.specs.declared.types.Kernel.TheVariants as k
+use Rattle.redn_kernel.specs.Program.{weight_of, weight_of_all}
+use Rattle.redn_kernel.proofs.Cases.{weight_of_if, weight_of_loop, weight_of_repeat, weight_of_lookup, weight_of_walk}
+use Rattle.redn_graph.specs.declared.types.Instr.TheVariants as instr
+use Rattle.redn_graph.specs.declared.types.End.TheVariants as end
+use Rattle.redn_kernel.specs.declared.types.Cell.TheVariants as cell
+use Rattle.redn_graph.specs.declared.build.Tail.TheVariants.{To}
+use Rattle.redn_kernel.specs.CoreRun.{cell_of}
+use Rattle.redn_graph.specs.Words.{test_end}
+use Rattle.redn_graph.specs.Code.{Compiles}
+use Rattle.redn_graph.proofs.Doing.{add_runs, load_runs, store_runs}
+use Rattle.redn_graph.proofs.Ends.{reply_runs}
+use Rattle.redn_graph.proofs.Building.{compiles_break, compiles_endless}
+use Rattle.redn_graph.proofs.Counting.{compiles_counted, compiles_never}
+use Rattle.redn_graph.proofs.Statements.{ok_still, move_of_runs, compiles_as, compiles_alone, compiles_test, grown_still, search_grown, weight_positive, met_sound, unmet_sound, loop_sound, repeat_sound, probes_few, nodes_some}
+use Rattle.redn_graph.specs.Slots.{end_slots}
+use Rattle.redn_graph.proofs.Slots.{to_slots, open_slots, test_slots}
+use Rattle.std.proofs.Common.{◌<◌, refl}
+use Rattle.std.proofs.lemmas.List.Elements.{All-nil}
+use Rattle.redn_graph.specs.declared.types.Block.{Block}
+use Rattle.redn_graph.specs.Words.{counts, counted}
+use Rattle.redn_graph.specs.Fits.{IsCell, FitsInstr, FitsCode, Fitted, AllWell}
+use Rattle.redn_graph.proofs.Fits.{fitted_none, fitted_then, fitted_bound, within_before, open_fits, alone_fits, test_fits, move_fits, add_fits, load_fits, store_fits, if_fits, loop_fits, repeat_fits, lookup_fits, walk_fits, reply_fits}
+use Rattle.redn_graph.proofs.Slots.{to_size, open_size, sized_as}
+use Rattle.std.proofs.Common.{◌≡◌}
+use Rattle.std.proofs.Math.Seq.{drop-length}
+use Rattle.redn_graph.specs.Growth.{IsSoundOne}
+use Rattle.redn_graph.specs.Slots.{Sized}
+use Rattle.redn_graph.proofs.Lists.{Listed, listed_none, listed_one, listed_more, last_and_more, weight_at, sound_at}
+use Rattle.redn_graph.proofs.build.Builder.+code.Goals as goal
+
+pub branch-list-requires-2 : goal.branch-list-requires-2
+branch-list-requires-2 t c =
+    let grown = c.in_ok-met.ensures.grown in
+    let more = c.in_ok-next.ensures in
+    (omega arith, (record { searches = omega arith; cells = omega arith; blocks = omega arith }, c.requires.sound_too))
+
+pub branch-returns-clause-compiles : goal.branch-returns-clause-compiles
+branch-returns-clause-compiles t c =
+    let a = c.args in
+    let made = c.test.ensures ∙ ap (λ x. test_end a.wide x c.cell_for-2.result c.in_ok-yes.yes c.in_ok-no.no) c.cell_for.ensures ∙ ap (λ x. test_end a.wide (cell_of a.left) x c.in_ok-yes.yes c.in_ok-no.no) c.cell_for-2.ensures in
+    let grown = c.in_ok-met.ensures.grown in
+    let more = c.in_ok-next.ensures in
+    let le1 : a.self.now.hidden ≤ c.label.new.self.hidden = omega arith in
+    let le2 : a.self.now.hidden ≤ c.list.new.self.hidden = omega arith in
+    compiles_test a.exit a.wide a.left a.right a.yes.now a.no.now a.tail c.in_ok-next.next c.in_ok-met.met c.in_ok-unmet.unmet c.in_ok-yes.yes c.in_ok-no.no c.test.result c.open.result le1 le2 made c.open.ensures
+    c.in_ok-next.ensures.labels c.in_ok-met.ensures.compiles c.in_ok-unmet.ensures.compiles c.in_ok-yes.ensures.labels c.in_ok-no.ensures.labels
+
+pub counted-returns-then-count-eq0-clause-compiles :
+    goal.counted-returns-then-count-eq0-clause-compiles
+counted-returns-then-count-eq0-clause-compiles t c exit =
+    let a = c.args in
+    subst (λ (n : ℕ). Compiles a.self.now.blocks c.label.new.self.blocks a.self.now.hidden exit (k.Repeat n a.body.now ∷ []) a.tail (To c.in_ok-out.out)) (sym c.if-count-eq0.true)
+    (compiles_never a.self.now.hidden exit a.body.now a.tail c.in_ok-out.out c.in_ok-out.ensures.labels)
+
+pub counted-bind-requires : goal.counted-bind-requires
+counted-bind-requires t c =
+    let grown = c.in_ok-first.ensures.grown in
+    let reserved = c.in_ok-head.ensures in
+    omega (arith, ap length reserved.blocks.1, length-append c.label.new.self.blocks (reserved.blocks.0 ∷ []))
+
+pub counted-returns-clause-compiles : goal.counted-returns-clause-compiles
+counted-returns-clause-compiles t c =
+    let a = c.args in
+    let n = c.in_ok-out.ensures in
+    ok_still c.before-2.result _ _ (λ after precedes exit.
+    compiles_counted exit c.label.new.self.hidden a.count a.body.now a.tail c.in_ok-end.end after c.in_ok-out.out c.in_ok-head.head c.in_ok-head.ensures.blocks.0 c.in_ok-first.first (omega arith) (omega arith) (omega arith) (omega arith) (omega arith) c.in_ok-head.ensures.blocks.1 c.in_ok-head.ensures.number
+    c.in_ok-end.ensures c.in_ok-out.ensures.labels c.in_ok-first.ensures.compiles c.in_ok-bind.ensures.bound precedes)
+    c.before-2.ensures.code
+
+pub endless-bind-requires : goal.endless-bind-requires
+endless-bind-requires t c =
+    let grown = c.in_ok-first.ensures.grown in
+    let reserved = c.in_ok-head.ensures in
+    omega (arith, ap length reserved.blocks.1, length-append c.label.new.self.blocks (reserved.blocks.0 ∷ []))
+
+pub endless-returns-clause-compiles : goal.endless-returns-clause-compiles
+endless-returns-clause-compiles t c exit =
+    let a = c.args in
+    let le : a.self.now.hidden ≤ c.reserve.new.self.hidden = omega (arith, c.in_ok-out.ensures.hidden, c.in_ok-head.ensures.hidden) in
+    compiles_endless exit a.body.now a.tail c.in_ok-out.out c.in_ok-head.head c.in_ok-head.ensures.blocks.0 c.in_ok-first.first le c.in_ok-head.ensures.blocks.1 c.in_ok-head.ensures.number
+    c.in_ok-out.ensures.labels c.in_ok-first.ensures.compiles c.in_ok-bind.ensures.bound
+
+pub statement-branch-self-requires : goal.statement-branch-self-requires
+statement-branch-self-requires t c =
+    let whole = ap weight_of c.in-If.is ∙ weight_of_if _ _ _ _ _ in
+    let met = ap weight_of_all c.as_slice.ensures in
+    let unmet = ap weight_of_all c.as_slice-in-If.ensures in
+    (omega arith, (record { searches = omega arith; cells = omega arith; blocks = omega arith }, (met_sound _ _ _ _ _ _ _ c.in-If.is c.as_slice.ensures c.requires.sound, unmet_sound _ _ _ _ _ _ _ c.in-If.is c.as_slice-in-If.ensures c.requires.sound)))
+
+pub statement-endless-requires : goal.statement-endless-requires
+statement-endless-requires t c =
+    let whole = ap weight_of c.in-Loop.is ∙ weight_of_loop _ in
+    let inner = ap weight_of_all c.as_slice-in-Loop.ensures in
+    (omega arith, (record { searches = omega arith; cells = omega arith; blocks = omega arith }, loop_sound _ _ _ c.in-Loop.is c.as_slice-in-Loop.ensures c.requires.sound))
+
+pub statement-counted-requires : goal.statement-counted-requires
+statement-counted-requires t c =
+    let whole = ap weight_of c.in-Repeat.is ∙ weight_of_repeat _ _ in
+    let inner = ap weight_of_all c.as_slice-in-Repeat.ensures in
+    (omega arith, (record { searches = omega arith; cells = omega arith; blocks = omega arith }, repeat_sound _ _ _ _ c.in-Repeat.is c.as_slice-in-Repeat.ensures c.requires.sound))
+
+pub statement-returns-in-Move-clause-compiles : goal.statement-returns-in-Move-clause-compiles
+statement-returns-in-Move-clause-compiles t c =
+    let a = c.args in
+    let i = c.in-Move in
+    compiles_as a.self.now.blocks a.self.now.hidden a.exit a.statement.now _ _ _ a.tail c.before-in-Move.result i.is c.move_instr.ensures (move_of_runs i.to i.from) c.before-in-Move.ensures.code
+
+pub statement-returns-in-Add-clause-compiles : goal.statement-returns-in-Add-clause-compiles
+statement-returns-in-Add-clause-compiles t c =
+    let a = c.args in
+    let i = c.in-Add in
+    let made = ap (instr.Add (cell.Var i.to)) c.cell_for-by.ensures in
+    compiles_as a.self.now.blocks a.self.now.hidden a.exit a.statement.now _ _ _ a.tail c.before-in-Add.result i.is made (λ m. add_runs m i.to i.by) c.before-in-Add.ensures.code
+
+pub statement-returns-in-Load-clause-compiles : goal.statement-returns-in-Load-clause-compiles
+statement-returns-in-Load-clause-compiles t c =
+    let a = c.args in
+    let i = c.in-Load in
+    let made = ap (instr.Load (cell.Var i.to) i.table) c.cell_for-offset.ensures in
+    compiles_as a.self.now.blocks a.self.now.hidden a.exit a.statement.now _ _ _ a.tail c.before-in-Load.result i.is made (λ m. load_runs m i.to i.table i.offset) c.before-in-Load.ensures.code
+
+pub statement-returns-in-Store-clause-compiles : goal.statement-returns-in-Store-clause-compiles
+statement-returns-in-Store-clause-compiles t c =
+    let a = c.args in
+    let i = c.in-Store in
+    let made = ap (λ x. instr.Store i.table x c.cell_for-from.result) c.cell_for-offset-in-Store.ensures ∙ ap (λ x. instr.Store i.table (cell_of i.offset) x) c.cell_for-from.ensures in
+    compiles_as a.self.now.blocks a.self.now.hidden a.exit a.statement.now _ _ _ a.tail c.before-in-Store.result i.is made (λ m. store_runs m i.table i.offset i.from) c.before-in-Store.ensures.code
+
+pub statement-returns-in-If-clause-grown : goal.statement-returns-in-If-clause-grown
+statement-returns-in-If-clause-grown t c =
+    let whole = ap weight_of c.in-If.is ∙ weight_of_if _ _ _ _ _ in
+    let met = ap weight_of_all c.as_slice.ensures in
+    let unmet = ap weight_of_all c.as_slice-in-If.ensures in
+    grown_still c.branch-self.result _ _ _ _ (omega arith) c.branch-self.ensures.grown
+
+pub statement-returns-in-Loop-clause-compiles : goal.statement-returns-in-Loop-clause-compiles
+statement-returns-in-Loop-clause-compiles t c =
+    let a = c.args in
+    let is = c.in-Loop.is ∙ ap k.Loop (sym c.as_slice-in-Loop.ensures) in
+    ok_still c.endless.result _ _
+    (λ after compiles. subst (λ (st : Kernel). Compiles a.self.now.blocks c.endless.new.self.blocks a.self.now.hidden a.exit (st ∷ []) a.tail after) (sym is) (compiles a.exit))
+    c.endless.ensures.compiles
+
+pub statement-returns-in-Loop-clause-grown : goal.statement-returns-in-Loop-clause-grown
+statement-returns-in-Loop-clause-grown t c =
+    let whole = ap weight_of c.in-Loop.is ∙ weight_of_loop _ in
+    let inner = ap weight_of_all c.as_slice-in-Loop.ensures in
+    grown_still c.endless.result _ _ _ _ (omega arith) c.endless.ensures.grown
+
+pub statement-returns-in-Repeat-clause-compiles : goal.statement-returns-in-Repeat-clause-compiles
+statement-returns-in-Repeat-clause-compiles t c =
+    let a = c.args in
+    let is = c.in-Repeat.is ∙ ap (k.Repeat c.in-Repeat.count) (sym c.as_slice-in-Repeat.ensures) in
+    ok_still c.counted.result _ _
+    (λ after compiles. subst (λ (st : Kernel). Compiles a.self.now.blocks c.counted.new.self.blocks a.self.now.hidden a.exit (st ∷ []) a.tail after) (sym is) (compiles a.exit))
+    c.counted.ensures.compiles
+
+pub statement-returns-in-Repeat-clause-grown : goal.statement-returns-in-Repeat-clause-grown
+statement-returns-in-Repeat-clause-grown t c =
+    let whole = ap weight_of c.in-Repeat.is ∙ weight_of_repeat _ _ in
+    let inner = ap weight_of_all c.as_slice-in-Repeat.ensures in
+    grown_still c.counted.result _ _ _ _ (omega arith) c.counted.ensures.grown
+
+pub statement-returns-in-Break-clause-compiles : goal.statement-returns-in-Break-clause-compiles
+statement-returns-in-Break-clause-compiles t c =
+    let a = c.args in
+    subst (λ (st : Kernel). Compiles a.self.now.blocks a.self.now.blocks a.self.now.hidden a.exit (st ∷ []) a.tail (To a.exit)) (sym c.in-Break.is)
+    (compiles_break a.self.now.blocks a.self.now.hidden a.exit a.tail)
+
+pub statement-returns-in_ok-words-in-Reply-clause-compiles :
+    goal.statement-returns-in_ok-words-in-Reply-clause-compiles
+statement-returns-in_ok-words-in-Reply-clause-compiles t c =
+    let a = c.args in
+    let made = ap end.Reply (c.in_ok-words-in-Reply.ensures ∙ ap (map cell_of) c.as_slice-in-Reply.ensures) in
+    compiles_alone a.self.now.blocks a.self.now.hidden a.exit a.statement.now _ _ _ a.tail c.open.result c.in-Reply.is made (λ all m. reply_runs all c.in-Reply.words m) c.open.ensures
+
+pub statement-lookup-requires : goal.statement-lookup-requires
+statement-lookup-requires t c =
+    let i = c.in-Lookup in
+    let few = probes_few c.args.statement.now i.to i.table i.offset i.key i.probes i.is c.requires.sound in
+    record { room = omega arith; some = few.0 }
+
+pub statement-walk-requires : goal.statement-walk-requires
+statement-walk-requires t c =
+    let i = c.in-Walk in
+    record { room = omega arith; some = nodes_some c.args.statement.now i.to i.table i.offset i.key i.nodes i.is c.requires.sound }
+
+pub statement-returns-in-Lookup-clause-compiles : goal.statement-returns-in-Lookup-clause-compiles
+statement-returns-in-Lookup-clause-compiles t c =
+    let a = c.args in
+    ok_still c.lookup.result _ _
+    (λ after compiles. subst (λ (st : Kernel). Compiles a.self.now.blocks c.lookup.new.self.blocks a.self.now.hidden a.exit (st ∷ []) a.tail after) (sym c.in-Lookup.is) (compiles a.self.now.hidden a.exit))
+    c.lookup.ensures.compiles
+
+pub statement-returns-in-Walk-clause-compiles : goal.statement-returns-in-Walk-clause-compiles
+statement-returns-in-Walk-clause-compiles t c =
+    let a = c.args in
+    ok_still c.walk.result _ _
+    (λ after compiles. subst (λ (st : Kernel). Compiles a.self.now.blocks c.walk.new.self.blocks a.self.now.hidden a.exit (st ∷ []) a.tail after) (sym c.in-Walk.is) (compiles a.self.now.hidden a.exit))
+    c.walk.ensures.compiles
+
+pub statement-returns-in-Lookup-clause-grown : goal.statement-returns-in-Lookup-clause-grown
+statement-returns-in-Lookup-clause-grown t c =
+    let i = c.in-Lookup in
+    let few = probes_few c.args.statement.now i.to i.table i.offset i.key i.probes i.is c.requires.sound in
+    let whole = ap weight_of i.is ∙ weight_of_lookup _ _ _ _ _ in
+    search_grown c.lookup.result c.args.self.now c.lookup.new.self (i.probes + 1) (weight_of c.args.statement.now) c.lookup.ensures.hidden (omega arith) c.lookup.ensures.more c.lookup.ensures.blocks
+
+pub statement-returns-in-Walk-clause-grown : goal.statement-returns-in-Walk-clause-grown
+statement-returns-in-Walk-clause-grown t c =
+    let whole = ap weight_of c.in-Walk.is ∙ weight_of_walk _ _ _ _ _ in
+    search_grown c.walk.result c.args.self.now c.walk.new.self 4 (weight_of c.args.statement.now) c.walk.ensures.hidden (omega arith) c.walk.ensures.more c.walk.ensures.blocks
+
+pub statement-returns-in-Break-clause-slots : goal.statement-returns-in-Break-clause-slots
+statement-returns-in-Break-clause-slots t c = omega (arith, to_slots c.args.exit)
+
+pub statement-returns-in_ok-words-in-Reply-clause-slots : goal.statement-returns-in_ok-words-in-Reply-clause-slots
+statement-returns-in_ok-words-in-Reply-clause-slots t c =
+    omega (arith, open_slots c.open.result _ _ c.open.ensures, weight_positive c.args.statement.now)
+
+pub branch-returns-clause-slots : goal.branch-returns-clause-slots
+branch-returns-clause-slots t c =
+    let a = c.args in
+    omega (
+      arith,
+      to_slots c.in_ok-next.next,
+      open_slots c.open.result _ _ c.open.ensures,
+      ap end_slots c.test.ensures,
+      test_slots a.wide c.cell_for.result c.cell_for-2.result c.in_ok-yes.yes c.in_ok-no.no,
+      c.in_ok-next.ensures.slots,
+      c.in_ok-met.ensures.slots,
+      c.in_ok-unmet.ensures.slots,
+      c.in_ok-yes.ensures.slots,
+      c.in_ok-no.ensures.slots,
+    )
+
+pub endless-returns-clause-slots : goal.endless-returns-clause-slots
+endless-returns-clause-slots t c =
+    omega (arith, to_slots c.in_ok-head.head, c.in_ok-out.ensures.slots, c.in_ok-head.ensures.slots, c.in_ok-first.ensures.slots, c.in_ok-bind.ensures.slots)
+
+pub counted-returns-then-count-eq0-clause-slots : goal.counted-returns-then-count-eq0-clause-slots
+counted-returns-then-count-eq0-clause-slots t c = omega (arith, to_slots c.in_ok-out.out, c.in_ok-out.ensures.slots)
+
+pub counted-returns-clause-slots : goal.counted-returns-clause-slots
+counted-returns-clause-slots t c =
+    ok_still c.before-2.result _ _
+    (λ after few. omega (arith, few, to_slots c.in_ok-head.head, open_slots c.in_ok-end.end _ _ c.in_ok-end.ensures, c.in_ok-out.ensures.slots, c.in_ok-head.ensures.slots, c.in_ok-first.ensures.slots, c.in_ok-bind.ensures.slots))
+    c.before-2.ensures.slots
+
+pub statement-returns-in-If-clause-slots : goal.statement-returns-in-If-clause-slots
+statement-returns-in-If-clause-slots t c =
+    let whole = ap weight_of c.in-If.is ∙ weight_of_if _ _ _ _ _ in
+    let met = ap weight_of_all c.as_slice.ensures in
+    let unmet = ap weight_of_all c.as_slice-in-If.ensures in
+    ok_still c.branch-self.result _ _ (λ after few. omega (arith, few, whole, met, unmet)) c.branch-self.ensures.slots
+
+pub statement-returns-in-Loop-clause-slots : goal.statement-returns-in-Loop-clause-slots
+statement-returns-in-Loop-clause-slots t c =
+    let whole = ap weight_of c.in-Loop.is ∙ weight_of_loop _ in
+    let inner = ap weight_of_all c.as_slice-in-Loop.ensures in
+    ok_still c.endless.result _ _ (λ after few. omega (arith, few, whole, inner)) c.endless.ensures.slots
+
+pub statement-returns-in-Repeat-clause-slots : goal.statement-returns-in-Repeat-clause-slots
+statement-returns-in-Repeat-clause-slots t c =
+    let whole = ap weight_of c.in-Repeat.is ∙ weight_of_repeat _ _ in
+    let inner = ap weight_of_all c.as_slice-in-Repeat.ensures in
+    ok_still c.counted.result _ _ (λ after few. omega (arith, few, whole, inner)) c.counted.ensures.slots
+
+pub statement-returns-in-Lookup-clause-slots : goal.statement-returns-in-Lookup-clause-slots
+statement-returns-in-Lookup-clause-slots t c =
+    let i = c.in-Lookup in
+    let sized = probes_few c.args.statement.now i.to i.table i.offset i.key i.probes i.is c.requires.sound in
+    let whole = ap weight_of i.is ∙ weight_of_lookup _ _ _ _ _ in
+    ok_still c.lookup.result _ _ (λ after few. omega (arith, few, whole, sized)) c.lookup.ensures.slots
+
+pub statement-returns-in-Walk-clause-slots : goal.statement-returns-in-Walk-clause-slots
+statement-returns-in-Walk-clause-slots t c =
+    let whole = ap weight_of c.in-Walk.is ∙ weight_of_walk _ _ _ _ _ in
+    ok_still c.walk.result _ _ (λ after few. omega (arith, few, whole)) c.walk.ensures.slots
+
+pub statement-returns-in-Move-clause-slots : goal.statement-returns-in-Move-clause-slots
+statement-returns-in-Move-clause-slots t c =
+    ok_still c.before-in-Move.result _ _ (λ after few. omega (arith, few, weight_positive c.args.statement.now)) c.before-in-Move.ensures.slots
+
+pub statement-returns-in-Add-clause-slots : goal.statement-returns-in-Add-clause-slots
+statement-returns-in-Add-clause-slots t c =
+    ok_still c.before-in-Add.result _ _ (λ after few. omega (arith, few, weight_positive c.args.statement.now)) c.before-in-Add.ensures.slots
+
+pub statement-returns-in-Load-clause-slots : goal.statement-returns-in-Load-clause-slots
+statement-returns-in-Load-clause-slots t c =
+    ok_still c.before-in-Load.result _ _ (λ after few. omega (arith, few, weight_positive c.args.statement.now)) c.before-in-Load.ensures.slots
+
+pub statement-returns-in-Store-clause-slots : goal.statement-returns-in-Store-clause-slots
+statement-returns-in-Store-clause-slots t c =
+    ok_still c.before-in-Store.result _ _ (λ after few. omega (arith, few, weight_positive c.args.statement.now)) c.before-in-Store.ensures.slots
+
+pub statement-returns-in-Move-clause-fits : goal.statement-returns-in-Move-clause-fits
+statement-returns-in-Move-clause-fits t c =
+    let i = c.in-Move in
+    ok_still c.before-in-Move.result _ _
+    (λ after fits n within exit well tail. (fitted_none n c.args.self.now.blocks, fits n (subst (FitsInstr n) (sym c.move_instr.ensures) (move_fits n c.args.statement.now i.to i.from i.is well)) tail))
+    c.before-in-Move.ensures.fits
+
+pub statement-returns-in-Add-clause-fits : goal.statement-returns-in-Add-clause-fits
+statement-returns-in-Add-clause-fits t c =
+    let i = c.in-Add in
+    ok_still c.before-in-Add.result _ _
+    (λ after fits n within exit well tail.
+    let h = add_fits n c.args.statement.now i.to i.by i.is well in
+    (fitted_none n c.args.self.now.blocks, fits n (h.0, subst (IsCell n) (sym c.cell_for-by.ensures) h.1) tail))
+    c.before-in-Add.ensures.fits
+
+pub statement-returns-in-Load-clause-fits : goal.statement-returns-in-Load-clause-fits
+statement-returns-in-Load-clause-fits t c =
+    let i = c.in-Load in
+    ok_still c.before-in-Load.result _ _
+    (λ after fits n within exit well tail.
+    let h = load_fits n c.args.statement.now i.to i.table i.offset i.is well in
+    (fitted_none n c.args.self.now.blocks, fits n (h.0, h.1, subst (IsCell n) (sym c.cell_for-offset.ensures) h.2) tail))
+    c.before-in-Load.ensures.fits
+
+pub statement-returns-in-Store-clause-fits : goal.statement-returns-in-Store-clause-fits
+statement-returns-in-Store-clause-fits t c =
+    let i = c.in-Store in
+    ok_still c.before-in-Store.result _ _
+    (λ after fits n within exit well tail.
+    let h = store_fits n c.args.statement.now i.table i.offset i.from i.is well in
+    (fitted_none n c.args.self.now.blocks, fits n (h.0, subst (IsCell n) (sym c.cell_for-offset-in-Store.ensures) h.1, subst (IsCell n) (sym c.cell_for-from.ensures) h.2) tail))
+    c.before-in-Store.ensures.fits
+
+pub statement-returns-in-If-clause-fits : goal.statement-returns-in-If-clause-fits
+statement-returns-in-If-clause-fits t c =
+    let i = c.in-If in
+    ok_still c.branch-self.result _ _
+    (λ after fits n within exit well tail.
+    let h = if_fits n c.args.statement.now i.wide i.left i.right i.yes i.no i.is well in
+    fits n within exit h.0 h.1 (subst (AllWell n) (sym c.as_slice.ensures) h.2) (subst (AllWell n) (sym c.as_slice-in-If.ensures) h.3) tail)
+    c.branch-self.ensures.fits
+
+pub statement-returns-in-Loop-clause-fits : goal.statement-returns-in-Loop-clause-fits
+statement-returns-in-Loop-clause-fits t c =
+    let i = c.in-Loop in
+    ok_still c.endless.result _ _
+    (λ after fits n within exit well tail. fits n within (subst (AllWell n) (sym c.as_slice-in-Loop.ensures) (loop_fits n c.args.statement.now i.body i.is well)) tail)
+    c.endless.ensures.fits
+
+pub statement-returns-in-Repeat-clause-fits : goal.statement-returns-in-Repeat-clause-fits
+statement-returns-in-Repeat-clause-fits t c =
+    let i = c.in-Repeat in
+    ok_still c.counted.result _ _
+    (λ after fits n within exit well tail. fits n within (subst (AllWell n) (sym c.as_slice-in-Repeat.ensures) (repeat_fits n c.args.statement.now i.count i.body i.is well)) tail)
+    c.counted.ensures.fits
+
+pub statement-returns-in-Lookup-clause-fits : goal.statement-returns-in-Lookup-clause-fits
+statement-returns-in-Lookup-clause-fits t c =
+    let i = c.in-Lookup in
+    ok_still c.lookup.result _ _
+    (λ after fits n within exit well tail.
+    let h = lookup_fits n c.args.statement.now i.to i.table i.offset i.key i.probes i.is well in
+    fits n within (h.0, h.1, h.3) h.2 tail)
+    c.lookup.ensures.fits
+
+pub statement-returns-in-Walk-clause-fits : goal.statement-returns-in-Walk-clause-fits
+statement-returns-in-Walk-clause-fits t c =
+    let i = c.in-Walk in
+    ok_still c.walk.result _ _
+    (λ after fits n within exit well tail.
+    let h = walk_fits n c.args.statement.now i.to i.table i.offset i.key i.nodes i.is well in
+    fits n within (h.0, h.1, h.3) h.2 tail)
+    c.walk.ensures.fits
+
+pub statement-returns-in_ok-words-in-Reply-clause-fits : goal.statement-returns-in_ok-words-in-Reply-clause-fits
+statement-returns-in_ok-words-in-Reply-clause-fits t c n within exit well tail =
+    let i = c.in-Reply in
+    let made = ap end.Reply (c.in_ok-words-in-Reply.ensures ∙ ap (map cell_of) c.as_slice-in-Reply.ensures) in
+    let code = subst (FitsCode n []) (sym made) (record { instrs_fit = All-nil (FitsInstr n); end_fits = reply_fits n c.args.statement.now i.words i.is well; full = tt }) in
+    (fitted_none n c.args.self.now.blocks, open_fits n c.open.result [] _ c.open.ensures code)
+
+pub branch-returns-clause-fits : goal.branch-returns-clause-fits
+branch-returns-clause-fits t c n within exit left right met unmet tail =
+    let a = c.args in
+    let made = c.test.ensures ∙ ap (λ x. test_end a.wide x c.cell_for-2.result c.in_ok-yes.yes c.in_ok-no.no) c.cell_for.ensures ∙ ap (λ x. test_end a.wide (cell_of a.left) x c.in_ok-yes.yes c.in_ok-no.no) c.cell_for-2.ensures in
+    let first = c.in_ok-met.ensures.grown in
+    let second = c.in_ok-unmet.ensures.grown in
+    let third = c.in_ok-yes.ensures in
+    let fourth = c.in_ok-no.ensures in
+    let few1 : length c.label.new.self.blocks ≤ n.blocks = omega (arith, within.few_blocks, first, second, third.more, fourth.more) in
+    let w2 = within_before n c.list.new.self c.label-3.new.self (omega (arith, second, third.more, fourth.more)) (omega (arith, second, third.hidden, fourth.hidden)) within in
+    let w3 = within_before n c.list-2.new.self c.label-3.new.self (omega (arith, third.more, fourth.more)) (omega (arith, third.hidden, fourth.hidden)) within in
+    let few4 : length c.label-2.new.self.blocks ≤ n.blocks = omega (arith, within.few_blocks, fourth.more) in
+    let x1 = c.in_ok-next.ensures.fits n few1 tail in
+    let x2 = c.in_ok-met.ensures.fits n w2 exit met x1.1 in
+    let x3 = c.in_ok-unmet.ensures.fits n w3 exit unmet x1.1 in
+    let x4 = third.fits n few4 x2.1 in
+    let x5 = fourth.fits n within.few_blocks x3.1 in (
+      fitted_then n x1.0 (fitted_then n x2.0 (fitted_then n x3.0 (fitted_then n x4.0 x5.0))),
+      open_fits n c.open.result [] c.test.result c.open.ensures (test_fits n a.wide a.left a.right c.in_ok-yes.yes c.in_ok-no.no c.test.result made left right x4.1 x5.1),
+    )
+
+pub endless-returns-clause-fits : goal.endless-returns-clause-fits
+endless-returns-clause-fits t c n within all tail =
+    let grown = c.in_ok-first.ensures.grown in
+    let reserved = c.in_ok-head.ensures in
+    let bound = c.in_ok-bind.ensures.bound in
+    let more = length-append c.label.new.self.blocks (reserved.blocks.0 ∷ []) in
+    let size = ap length reserved.blocks.1 in
+    let few1 : length c.label.new.self.blocks ≤ n.blocks = omega (arith, within.few_blocks, bound.same_count, grown, size, more) in
+    let w3 = within_before n c.list.new.self c.bind.new.self (omega (arith, bound.same_count)) (omega (arith, c.in_ok-bind.ensures.hidden)) within in
+    let x1 = c.in_ok-out.ensures.fits n few1 tail in
+    let at_head : c.in_ok-head.head < n.blocks = omega (arith, reserved.number, within.few_blocks, bound.same_count, grown, size, more) in
+    let x3 = c.in_ok-first.ensures.fits n w3 x1.1 all at_head in
+    let some_hidden : 1 ≤ n.hidden = omega (arith, within.searches) in
+    let here = c.in_ok-bind.ensures.fits n some_hidden x3.1 in
+    let y = subst (λ (old : List Block). Fitted n old c.list.new.self.blocks) reserved.blocks.1 x3.0 in
+    (fitted_then n x1.0 (fitted_bound n reserved.blocks.0 c.in_ok-head.head reserved.number y bound.same_count bound.others here), at_head)
+
+pub counted-returns-clause-fits : goal.counted-returns-clause-fits
+counted-returns-clause-fits t c =
+    let grown = c.in_ok-first.ensures.grown in
+    let reserved = c.in_ok-head.ensures in
+    let bound = c.in_ok-bind.ensures.bound in
+    let more = length-append c.label.new.self.blocks (reserved.blocks.0 ∷ []) in
+    let size = ap length reserved.blocks.1 in
+    ok_still c.before-2.result _ _
+    (λ after before n within all tail.
+    let few1 : length c.label.new.self.blocks ≤ n.blocks = omega (arith, within.few_blocks, bound.same_count, grown, size, more) in
+    let w3 = within_before n c.list.new.self c.bind.new.self (omega (arith, bound.same_count)) (omega (arith, c.in_ok-bind.ensures.hidden)) within in
+    let x1 = c.in_ok-out.ensures.fits n few1 tail in
+    let at_head : c.in_ok-head.head < n.blocks = omega (arith, reserved.number, within.few_blocks, bound.same_count, grown, size, more) in
+    let counter : c.label.new.self.hidden < n.hidden = omega (arith, within.few_hidden, grown, reserved.hidden, c.in_ok-bind.ensures.hidden) in
+    let turn = counts c.label.new.self.hidden in
+    let last = counted c.label.new.self.hidden c.args.count c.in_ok-out.out c.in_ok-head.head in
+    let again = open_fits n c.in_ok-end.end (turn ∷ []) last c.in_ok-end.ensures (alone_fits n (turn ∷ []) turn last refl (counter, tt) (counter, tt, x1.1, at_head)) in
+    let x3 = c.in_ok-first.ensures.fits n w3 x1.1 all again in
+    let some_hidden : 1 ≤ n.hidden = omega (arith, within.searches) in
+    let here = c.in_ok-bind.ensures.fits n some_hidden x3.1 in
+    let y = subst (λ (old : List Block). Fitted n old c.list.new.self.blocks) reserved.blocks.1 x3.0 in
+    (fitted_then n x1.0 (fitted_bound n reserved.blocks.0 c.in_ok-head.head reserved.number y bound.same_count bound.others here), before n counter at_head))
+    c.before-2.ensures.fits
+
+pub statement-returns-in-If-clause-size : goal.statement-returns-in-If-clause-size
+statement-returns-in-If-clause-size t c =
+    let whole = ap weight_of c.in-If.is ∙ weight_of_if _ _ _ _ _ in
+    let met = ap weight_of_all c.as_slice.ensures in
+    let unmet = ap weight_of_all c.as_slice-in-If.ensures in
+    ok_still c.branch-self.result _ _ (sized_as _ _ _ _ _ (omega (arith, whole, met, unmet))) c.branch-self.ensures.size
+
+pub statement-returns-in-Loop-clause-size : goal.statement-returns-in-Loop-clause-size
+statement-returns-in-Loop-clause-size t c =
+    let whole = ap weight_of c.in-Loop.is ∙ weight_of_loop _ in
+    let inner = ap weight_of_all c.as_slice-in-Loop.ensures in
+    ok_still c.endless.result _ _ (sized_as _ _ _ _ _ (omega (arith, whole, inner))) c.endless.ensures.size
+
+pub statement-returns-in-Repeat-clause-size : goal.statement-returns-in-Repeat-clause-size
+statement-returns-in-Repeat-clause-size t c =
+    let whole = ap weight_of c.in-Repeat.is ∙ weight_of_repeat _ _ in
+    let inner = ap weight_of_all c.as_slice-in-Repeat.ensures in
+    ok_still c.counted.result _ _ (sized_as _ _ _ _ _ (omega (arith, whole, inner))) c.counted.ensures.size
+
+pub statement-returns-in-Lookup-clause-size : goal.statement-returns-in-Lookup-clause-size
+statement-returns-in-Lookup-clause-size t c =
+    let i = c.in-Lookup in
+    let sized = probes_few c.args.statement.now i.to i.table i.offset i.key i.probes i.is c.requires.sound in
+    let whole = ap weight_of i.is ∙ weight_of_lookup _ _ _ _ _ in
+    ok_still c.lookup.result _ _ (sized_as c.args.self.now.blocks c.lookup.new.self.blocks c.args.tail 2 (weight_of c.args.statement.now) (omega (arith, whole, sized))) c.lookup.ensures.size
+
+pub statement-returns-in-Walk-clause-size : goal.statement-returns-in-Walk-clause-size
+statement-returns-in-Walk-clause-size t c =
+    let whole = ap weight_of c.in-Walk.is ∙ weight_of_walk _ _ _ _ _ in
+    ok_still c.walk.result _ _ (sized_as c.args.self.now.blocks c.walk.new.self.blocks c.args.tail 5 (weight_of c.args.statement.now) (omega (arith, whole))) c.walk.ensures.size
+
+pub statement-returns-in-Break-clause-size : goal.statement-returns-in-Break-clause-size
+statement-returns-in-Break-clause-size t c size most some fits room small = (small, omega (arith, some, to_size c.args.exit))
+
+pub statement-returns-in_ok-words-in-Reply-clause-size : goal.statement-returns-in_ok-words-in-Reply-clause-size
+statement-returns-in_ok-words-in-Reply-clause-size t c size most some fits room small = (small, omega (arith, some, open_size c.open.result _ _ c.open.ensures))
+
+pub branch-returns-clause-size : goal.branch-returns-clause-size
+branch-returns-clause-size t c size most some fits room small =
+    let a = c.args in
+    let to = to_size c.in_ok-next.next in
+    let s1 = c.in_ok-next.ensures.small most (omega (arith, fits, room)) small in
+    let s2 = c.in_ok-met.ensures.size size most some (omega (arith, some, to)) (omega (arith, room)) s1 in
+    let s3 = c.in_ok-unmet.ensures.size size most some (omega (arith, some, to)) (omega (arith, room)) s2.0 in
+    let s4 = c.in_ok-yes.ensures.small most (omega (arith, room, s2.1)) s3.0 in
+    let s5 = c.in_ok-no.ensures.small most (omega (arith, room, s3.1)) s4 in
+    (s5, omega (arith, some, open_size c.open.result _ _ c.open.ensures, ap end_slots c.test.ensures, test_slots a.wide c.cell_for.result c.cell_for-2.result c.in_ok-yes.yes c.in_ok-no.no))
+
+pub endless-returns-clause-size : goal.endless-returns-clause-size
+endless-returns-clause-size t c size most some fits room small =
+    let to = to_size c.in_ok-head.head in
+    let s1 = c.in_ok-out.ensures.small most (omega (arith, fits, room)) small in
+    let s2 = c.in_ok-head.ensures.small most (omega (arith, some, room)) s1 in
+    let s3 = c.in_ok-first.ensures.size size most some (omega (arith, some, to)) (omega (arith, room)) s2 in
+    let s4 = c.in_ok-bind.ensures.small most (omega (arith, some, room)) (omega (arith, room, s3.1)) s3.0 in
+    (s4, omega (arith, some, to))
+
+pub counted-returns-then-count-eq0-clause-size : goal.counted-returns-then-count-eq0-clause-size
+counted-returns-then-count-eq0-clause-size t c size most some fits room small =
+    (c.in_ok-out.ensures.small most (omega (arith, fits, room)) small, omega (arith, some, to_size c.in_ok-out.out))
+
+pub counted-returns-clause-size : goal.counted-returns-clause-size
+counted-returns-clause-size t c =
+    let to = to_size c.in_ok-head.head in
+    ok_still c.before-2.result _ _
+    (λ after more size most some fits room small.
+    let s1 = c.in_ok-out.ensures.small most (omega (arith, fits, room)) small in
+    let s2 = c.in_ok-head.ensures.small most (omega (arith, some, room)) s1 in
+    let s3 = c.in_ok-first.ensures.size size most some (omega (arith, some, open_size c.in_ok-end.end _ _ c.in_ok-end.ensures)) (omega (arith, room)) s2 in
+    let s4 = c.in_ok-bind.ensures.small most (omega (arith, some, room)) (omega (arith, room, s3.1)) s3.0 in
+    (s4, omega (arith, some, more, to)))
+    c.before-2.ensures.size
+
+pub statement-returns-in-Move-clause-size : goal.statement-returns-in-Move-clause-size
+statement-returns-in-Move-clause-size t c =
+    ok_still c.before-in-Move.result _ _ (λ after more size most some fits room small. (small, omega (arith, more, fits, weight_positive c.args.statement.now))) c.before-in-Move.ensures.size
+
+pub statement-returns-in-Add-clause-size : goal.statement-returns-in-Add-clause-size
+statement-returns-in-Add-clause-size t c =
+    ok_still c.before-in-Add.result _ _ (λ after more size most some fits room small. (small, omega (arith, more, fits, weight_positive c.args.statement.now))) c.before-in-Add.ensures.size
+
+pub statement-returns-in-Load-clause-size : goal.statement-returns-in-Load-clause-size
+statement-returns-in-Load-clause-size t c =
+    ok_still c.before-in-Load.result _ _ (λ after more size most some fits room small. (small, omega (arith, more, fits, weight_positive c.args.statement.now))) c.before-in-Load.ensures.size
+
+pub statement-returns-in-Store-clause-size : goal.statement-returns-in-Store-clause-size
+statement-returns-in-Store-clause-size t c =
+    ok_still c.before-in-Store.result _ _ (λ after more size most some fits room small. (small, omega (arith, more, fits, weight_positive c.args.statement.now))) c.before-in-Store.ensures.size
+
+pub list-statement-requires : goal.list-statement-requires
+list-statement-requires t c =
+    let body = c.args.body.now in
+    let loop = c.loop-i in
+    let weight = weight_at body loop.i c.index-body-i.result c.loop-i-test.true loop.auto.i in
+    let same = ap weight_of c.index-body-i.is in
+    let grown = loop.invariant.grown in
+    (omega (arith, weight, same), (record { searches = omega arith; cells = omega (arith, grown, weight, same); blocks = omega (arith, grown, weight, same) }, subst IsSoundOne (sym c.index-body-i.is) (sound_at body loop.i c.index-body-i.result c.loop-i-test.true loop.auto.i c.requires.sound)))
+
+pub list-loop-i-init : goal.list-loop-i-init
+list-loop-i-init t c =
+    let a = c.args in
+    subst (λ (list : List Kernel). Listed a.self.now a.self.now a.exit a.tail list a.tail) (sym (drop-length a.body.now)) (listed_none a.self.now a.exit a.tail)
+
+pub list-loop-i-preserved : goal.list-loop-i-preserved
+list-loop-i-preserved t c =
+    let a = c.args in
+    let loop = c.loop-i in
+    let told = c.in_ok-after.ensures in
+    let body = a.body.now in
+    let one = listed_one c.index-body-i.result told.compiles told.slots told.grown told.fits told.size in
+    let all = listed_more c.index-body-i.result (drop loop.i body) loop.invariant one in
+    let same = ap (λ (first : Kernel). first ∷ drop loop.i body) c.index-body-i.is ∙ sym (last_and_more body loop.i c.index-body-i.result c.loop-i-test.true loop.auto.i) in
+    subst (λ (list : List Kernel). Listed a.self.now c.statement.new.self a.exit a.tail list c.in_ok-after.after) same all
+
+pub list-returns-clause-size : goal.list-returns-clause-size
+list-returns-clause-size t c =
+    let a = c.args in
+    let loop = c.loop-i in
+    let first : loop.i ≡ 0 = omega (arith, c.loop-i-test.false) in
+    subst (λ (i : ℕ). Sized a.self.now.blocks loop.self.blocks a.tail loop.after (weight_of_all (drop i a.body.now))) first loop.invariant.size

@@ -1,0 +1,10 @@
+pub mod Run
+pub mod Follows
+pub mod Code
+pub mod Words
+pub mod Slots
+pub mod Growth
+pub mod Searches
+pub mod Along
+pub mod Fits
+pub mod Silence

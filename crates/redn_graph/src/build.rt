@@ -1,0 +1,596 @@
+//! Blocks, from the last to the first.
+
+ghost use Rattle.std.specs.Prelude.{◌≡◌, ◌≢◌, ℕ, ◌+◌, ◌*◌, ◌^◌, ◌<◌, ◌≤◌, List, [], ◌∷◌, ◌++◌, length, map, slice_get, IfOk, OnOk, Some};
+ghost use Rattle.redn_kernel.specs.Program.{weight_of, weight_of_all};
+ghost use Rattle.redn_kernel.specs.CoreRun.{cell_of};
+ghost use Rattle.redn_graph.specs.Words.{move_of, test_end, counts, counted};
+ghost use Rattle.redn_graph.specs.Code.{Compiles, Precedes, Labels, Closes, IsOpen};
+ghost use Rattle.redn_graph.specs.Searches.{Misses, probe_of, skips, begin_at, begin_walk, follows_next, at_last};
+ghost use Rattle.redn_graph.specs.Slots.{SlotsWithin, Sized, AreSmall, block_slots, all_slots, tail_slots, tail_size};
+ghost use Rattle.redn_graph.specs.Fits.{Things, IsCell, FitsInstr, FitsBlock, FitsTail, FitsSought, Fitted, IsWithin, IsWell, AllWell};
+ghost use Rattle.redn_graph.specs.Growth.{IsRoomy, AllSound, IsSoundOne, Grown, Bound, IsFirst};
+
+use crate::types::{Block, End, Instr};
+use redn_kernel::{Cell, Kernel, Word, cell_for};
+use redn_words::Memory;
+use sqlite_items::Items;
+use std::alloc::Global;
+
+/// What follows some code: a block with a number, or one that is still open at its front.
+#[derive(Debug, Drop)]
+pub enum Tail {
+    To(u32),
+    /// The instructions, the last one first.
+    Open { instrs: Vec<Instr>, end: End },
+}
+
+/// A move of a word to a variable.
+pub fn move_instr(to: u16, from: Word) -> Instr
+    ensures { result ≡ move_of to from }
+{
+    let to = Cell::Var(to);
+    match from {
+        Word::Var(x) => Instr::Move {
+            to,
+            from: Cell::Var(x),
+        },
+        Word::Num(value) => Instr::Set { to, value },
+    }
+}
+
+/// The cells of some words.
+pub fn cells(alloc: Global, words: &[Word]) -> Result<Items<Cell>, Memory>
+    ensures { IfOk result (λ cells. cells ≡ map cell_of words.now) }
+{
+    let mut cells = Items::new(alloc);
+    for word in words {
+        cells.push(cell_for(*word))?;
+    }
+    Ok(cells)
+}
+
+/// A test of 64 bits, or else of the low 48.
+pub fn test(wide: bool, left: Cell, right: Cell, yes: u32, no: u32) -> End
+    ensures { result ≡ test_end wide left right yes no }
+{
+    if wide {
+        End::Test64 {
+            left,
+            right,
+            yes,
+            no,
+        }
+    } else {
+        End::Test48 {
+            left,
+            right,
+            yes,
+            no,
+        }
+    }
+}
+
+/// An open block of an end alone.
+pub fn open(alloc: Global, end: End) -> Tail
+    ensures { IsOpen result [] end }
+{
+    Tail::Open {
+        instrs: Vec::new(alloc),
+        end,
+    }
+}
+
+/// An open block of an instruction and an end.
+pub fn open_with(alloc: Global, instr: Instr, end: End) -> Result<Tail, Memory>
+    ensures { IfOk result (λ t. IsOpen t (instr ∷ []) end) }
+{
+    let mut instrs = Vec::new(alloc);
+    instrs.push(instr)?;
+    Ok(Tail::Open { instrs, end })
+}
+
+/// The hidden cell with the offset of a bucket or node.
+const AT: Cell = Cell::Hidden(0);
+
+/// The hidden cell that counts nodes.
+const NODES: Cell = Cell::Hidden(1);
+
+/// A search goes on so many bytes behind.
+fn skip(bytes: u64) -> Instr
+    ensures { result ≡ skips bytes }
+{
+    let by = Cell::Num(bytes);
+    Instr::Add { to: AT, by }
+}
+
+/// A search begins at an offset.
+fn begin(offset: Word) -> Instr
+    ensures { result ≡ begin_at offset }
+{
+    let from = cell_for(offset);
+    Instr::Move { to: AT, from }
+}
+
+/// A walk begins, and goes to its block.
+fn walk_entry(alloc: Global, offset: Word, head: u32) -> Result<Tail, Memory>
+    ensures { IfOk result (λ t. IsOpen t (begin_walk offset) (End.Jump head)) }
+{
+    let mut instrs = Vec::new(alloc);
+    instrs.push(Instr::Set {
+        to: NODES,
+        value: 0,
+    })?;
+    instrs.push(begin(offset))?;
+    let end = End::Jump { to: head };
+    Ok(Tail::Open { instrs, end })
+}
+
+/// A walk goes on at the next node, if there is one.
+fn next_node(alloc: Global, table: u16, out: u32, head: u32) -> Result<Tail, Memory>
+    ensures { IfOk result (λ t. IsOpen t (follows_next table) (at_last out head)) }
+{
+    let mut instrs = Vec::new(alloc);
+    instrs.push(Instr::Load {
+        to: AT,
+        table,
+        offset: AT,
+    })?;
+    instrs.push(skip(16))?;
+    let end = End::Test64 {
+        left: AT,
+        right: Cell::Num(0),
+        yes: out,
+        no: head,
+    };
+    Ok(Tail::Open { instrs, end })
+}
+
+/// The end of a body that is done so many times in all, by a cell that counts.
+pub fn again(alloc: Global, counter: u16, count: u32, out: u32, head: u32) -> Result<Tail, Memory>
+    ensures { IfOk result (λ t. IsOpen t (counts counter ∷ []) (counted counter count out head)) }
+{
+    let to = Cell::Hidden(counter);
+    let by = Cell::Num(1);
+    let mut instrs = Vec::new(alloc);
+    instrs.push(Instr::Add { to, by })?;
+    let end = End::Test48 {
+        left: to,
+        right: Cell::Num(u64::from(count)),
+        yes: out,
+        no: head,
+    };
+    Ok(Tail::Open { instrs, end })
+}
+
+/// An instruction stands before what follows.
+pub fn before(alloc: Global, instr: Instr, tail: Tail) -> Result<Tail, Memory>
+    ensures code { IfOk result (λ after. Precedes instr tail after) }
+    ensures slots { IfOk result (λ after. tail_slots after ≤ tail_slots tail + 19) }
+    ensures fits { IfOk result (λ after. (n : Things) → FitsInstr n instr → FitsTail n tail → FitsTail n after) }
+    ensures size { IfOk result (λ after. tail_size after ≤ tail_size tail + 10) }
+{
+    match tail {
+        Tail::To(to) => {
+            let mut instrs = Vec::new(alloc);
+            instrs.push(instr)?;
+            let end = End::Jump { to };
+            Ok(Tail::Open { instrs, end })
+        }
+        Tail::Open { mut instrs, end } => {
+            instrs.push(instr)?;
+            Ok(Tail::Open { instrs, end })
+        }
+    }
+}
+
+/// An instruction that does nothing.
+const IDLE: Instr = Instr::Move {
+    to: Cell::Hidden(0),
+    from: Cell::Hidden(0),
+};
+
+/// The block that does what a tail does.
+pub fn close(alloc: Global, tail: Tail) -> Result<Block, Memory>
+    ensures code { IfOk result (λ block. Closes tail block) }
+    ensures slots { IfOk result (λ block. block_slots block ≤ tail_slots tail + 14) }
+    ensures fits { IfOk result (λ block. (n : Things) → 1 ≤ n.hidden → FitsTail n tail → FitsBlock n block) }
+    ensures size { IfOk result (λ block. (most : ℕ) → 14 ≤ most → tail_size tail ≤ most → block_slots block ≤ most) }
+{
+    match tail {
+        Tail::To(to) => {
+            let mut instrs = Items::new(alloc);
+            instrs.push(IDLE)?;
+            let end = End::Jump { to };
+            Ok(Block { instrs, end })
+        }
+        Tail::Open { mut instrs, end } => {
+            instrs.reverse();
+            let instrs = Items::from_vec(instrs);
+            Ok(Block { instrs, end })
+        }
+    }
+}
+
+/// What a search looks for, and where it puts what it finds.
+#[derive(Clone, Copy, Debug)]
+pub struct Sought {
+    pub to: u16,
+    pub table: u16,
+    pub key: Word,
+}
+
+impl Sought {
+    /// A look at a bucket or node.
+    fn probe(self, hit: u32, miss: u32) -> End
+        ensures { result ≡ probe_of self hit miss }
+    {
+        End::Probe {
+            to: Cell::Var(self.to),
+            table: self.table,
+            offset: AT,
+            key: cell_for(self.key),
+            hit,
+            miss,
+        }
+    }
+}
+
+/// Blocks so far, and how many hidden cells they have.
+#[derive(Debug, Drop)]
+pub struct Builder {
+    pub blocks: Items<Block>,
+    pub hidden: u16,
+}
+
+impl Builder {
+    /// Block 0 leads back to itself for ever, which is what a chain does that has nothing to do.
+    pub fn new(alloc: Global) -> Result<Builder, Memory>
+        ensures { IfOk result (λ b. IsFirst b) }
+    {
+        let mut builder = Builder {
+            blocks: Items::new(alloc),
+            hidden: 2,
+        };
+        let first = builder.reserve(alloc)?;
+        builder.bind(alloc, first, Tail::To(first))?;
+        Ok(builder)
+    }
+
+    /// Adds a block.
+    fn add(&mut self, block: Block) -> Result<u32, Memory>
+        requires { length self.old.blocks < 2 ^ 32 }
+        ensures number { IfOk result (λ l. l ≡ length self.old.blocks) }
+        ensures blocks { OnOk result (self.new.blocks ≡ self.old.blocks ++ block ∷ []) }
+        ensures hidden { self.new.hidden ≡ self.old.hidden }
+    {
+        let number = self.blocks.len() as u32;
+        self.blocks.push(block)?;
+        Ok(number)
+    }
+
+    /// The number of the block that does what a tail does.
+    pub fn label(&mut self, tail: Tail) -> Result<u32, Memory>
+        requires { length self.old.blocks < 2 ^ 32 }
+        ensures labels { IfOk result (λ l. Labels self.old.blocks self.new.blocks tail l) }
+        ensures slots { OnOk result (all_slots self.new.blocks ≤ all_slots self.old.blocks + tail_slots tail) }
+        ensures blocks { OnOk result (length self.new.blocks ≤ length self.old.blocks + 1) }
+        ensures more { OnOk result (length self.old.blocks ≤ length self.new.blocks) }
+        ensures hidden { self.new.hidden ≡ self.old.hidden }
+        ensures fits { IfOk result (λ l. (n : Things) → length self.new.blocks ≤ n.blocks → FitsTail n tail → Fitted n self.old.blocks self.new.blocks × (l < n.blocks)) }
+        ensures small { OnOk result ((most : ℕ) → tail_size tail ≤ most → AreSmall most self.old.blocks → AreSmall most self.new.blocks) }
+    {
+        match tail {
+            Tail::To(number) => Ok(number),
+            Tail::Open { mut instrs, end } => {
+                instrs.reverse();
+                let instrs = Items::from_vec(instrs);
+                let number = self.add(Block { instrs, end })?;
+                Ok(number)
+            }
+        }
+    }
+
+    /// The number of a block that is still to come.
+    fn reserve(&mut self, alloc: Global) -> Result<u32, Memory>
+        requires { length self.old.blocks < 2 ^ 32 }
+        ensures number { IfOk result (λ l. l ≡ length self.old.blocks) }
+        ensures blocks { OnOk result ((b : _) × (self.new.blocks ≡ self.old.blocks ++ b ∷ [])) }
+        ensures slots { OnOk result (all_slots self.new.blocks ≤ all_slots self.old.blocks + 13) }
+        ensures hidden { self.new.hidden ≡ self.old.hidden }
+        ensures small { OnOk result ((most : ℕ) → 13 ≤ most → AreSmall most self.old.blocks → AreSmall most self.new.blocks) }
+    {
+        let instrs = Items::new(alloc);
+        let words = Items::new(alloc);
+        let end = End::Reply { words };
+        let number = self.add(Block { instrs, end })?;
+        Ok(number)
+    }
+
+    /// A block that was reserved does what a tail does.
+    fn bind(&mut self, alloc: Global, head: u32, tail: Tail) -> Result<(), Memory>
+        requires { head < length self.old.blocks }
+        ensures bound { OnOk result (Bound self.old.blocks self.new.blocks head tail) }
+        ensures slots { OnOk result (all_slots self.new.blocks ≤ all_slots self.old.blocks + tail_slots tail + 14) }
+        ensures hidden { self.new.hidden ≡ self.old.hidden }
+        ensures fits { OnOk result ((n : Things) → 1 ≤ n.hidden → FitsTail n tail → (b : _) → slice_get self.new.blocks head ≡ Some b → FitsBlock n b) }
+        ensures small { OnOk result ((most : ℕ) → 14 ≤ most → tail_size tail ≤ most → AreSmall most self.old.blocks → AreSmall most self.new.blocks) }
+    {
+        let block = close(alloc, tail)?;
+        self.blocks.set(head as usize, block);
+        Ok(())
+    }
+
+    /// The number of a block that looks at so many more buckets.
+    fn misses(&mut self, alloc: Global, sought: Sought, count: u8, next: u32) -> Result<u32, Memory>
+        requires { length self.old.blocks + count < 2 ^ 32 }
+        ensures misses { IfOk result (λ l. Misses self.old.blocks self.new.blocks sought count next l) }
+        ensures slots { OnOk result (all_slots self.new.blocks ≤ all_slots self.old.blocks + 44 * count) }
+        ensures blocks { OnOk result (length self.new.blocks ≤ length self.old.blocks + count) }
+        ensures more { OnOk result (length self.old.blocks ≤ length self.new.blocks) }
+        ensures hidden { self.new.hidden ≡ self.old.hidden }
+        ensures fits { IfOk result (λ l. (n : Things) → IsWithin n self.new → FitsSought n sought → next < n.blocks → Fitted n self.old.blocks self.new.blocks × (l < n.blocks)) }
+        ensures small { OnOk result ((most : ℕ) → 44 ≤ most → AreSmall most self.old.blocks → AreSmall most self.new.blocks) }
+    {
+        if count == 0 {
+            return Ok(next);
+        }
+        let miss = self.misses(alloc, sought, count - 1, next)?;
+        let step = open_with(alloc, skip(16), sought.probe(next, miss))?;
+        let number = self.label(step)?;
+        Ok(number)
+    }
+
+    fn lookup(
+        &mut self,
+        alloc: Global,
+        sought: Sought,
+        offset: Word,
+        probes: u8,
+        tail: Tail,
+    ) -> Result<Tail, Memory>
+        requires room { length self.old.blocks + probes + 1 < 2 ^ 32 }
+        requires some { 1 ≤ probes }
+        ensures compiles { IfOk result (λ after. (hidden exit : ℕ) → Compiles self.old.blocks self.new.blocks hidden exit (Kernel.Lookup sought.to sought.table offset sought.key probes ∷ []) tail after) }
+        ensures slots { IfOk result (λ after. SlotsWithin self.old.blocks self.new.blocks tail after (44 * probes)) }
+        ensures blocks { OnOk result (length self.new.blocks ≤ length self.old.blocks + (probes + 1)) }
+        ensures more { OnOk result (length self.old.blocks ≤ length self.new.blocks) }
+        ensures hidden { self.new.hidden ≡ self.old.hidden }
+        ensures fits { IfOk result (λ after. (n : Things) → IsWithin n self.new → FitsSought n sought → IsCell n (cell_of offset) → FitsTail n tail → Fitted n self.old.blocks self.new.blocks × FitsTail n after) }
+        ensures size { IfOk result (λ after. Sized self.old.blocks self.new.blocks tail after 2) }
+    {
+        let next = self.label(tail)?;
+        let miss = self.misses(alloc, sought, probes - 1, next)?;
+        let first = open_with(alloc, begin(offset), sought.probe(next, miss))?;
+        Ok(first)
+    }
+
+    fn walk(
+        &mut self,
+        alloc: Global,
+        sought: Sought,
+        offset: Word,
+        nodes: u16,
+        tail: Tail,
+    ) -> Result<Tail, Memory>
+        requires room { length self.old.blocks + 4 < 2 ^ 32 }
+        requires some { 1 ≤ nodes }
+        ensures compiles { IfOk result (λ after. (hidden exit : ℕ) → Compiles self.old.blocks self.new.blocks hidden exit (Kernel.Walk sought.to sought.table offset sought.key nodes ∷ []) tail after) }
+        ensures slots { IfOk result (λ after. SlotsWithin self.old.blocks self.new.blocks tail after (185)) }
+        ensures blocks { OnOk result (length self.new.blocks ≤ length self.old.blocks + 4) }
+        ensures more { OnOk result (length self.old.blocks ≤ length self.new.blocks) }
+        ensures hidden { self.new.hidden ≡ self.old.hidden }
+        ensures fits { IfOk result (λ after. (n : Things) → IsWithin n self.new → FitsSought n sought → IsCell n (cell_of offset) → FitsTail n tail → Fitted n self.old.blocks self.new.blocks × FitsTail n after) }
+        ensures size { IfOk result (λ after. Sized self.old.blocks self.new.blocks tail after 5) }
+    {
+        let out = self.label(tail)?;
+        let head = self.reserve(alloc)?;
+        let onward = next_node(alloc, sought.table, out, head)?;
+        let on = self.label(onward)?;
+        let turn = again(alloc, 1, u32::from(nodes), out, on)?;
+        let count = self.label(turn)?;
+        self.bind(alloc, head, open(alloc, sought.probe(out, count)))?;
+        let first = walk_entry(alloc, offset, head)?;
+        Ok(first)
+    }
+
+    /// Code for some statements, before what follows them. A break leads to `exit`.
+    #[cycle(code)]
+    pub fn list(
+        &mut self,
+        alloc: Global,
+        body: &[Kernel],
+        tail: Tail,
+        exit: u32,
+    ) -> Result<Tail, Memory>
+        requires room { IsRoomy self.old (weight_of_all body.now) }
+        requires sound { AllSound body.now }
+        ensures compiles { IfOk result (λ after. Compiles self.old.blocks self.new.blocks self.old.hidden exit body.now tail after) }
+        ensures slots { IfOk result (λ after. SlotsWithin self.old.blocks self.new.blocks tail after (37 * weight_of_all body.now)) }
+        ensures grown { OnOk result (Grown self.old self.new (weight_of_all body.now)) }
+        ensures fits { IfOk result (λ after. (n : Things) → IsWithin n self.new → exit < n.blocks → AllWell n body.now → FitsTail n tail → Fitted n self.old.blocks self.new.blocks × FitsTail n after) }
+        ensures size { IfOk result (λ after. Sized self.old.blocks self.new.blocks tail after (weight_of_all body.now)) }
+    {
+        let mut after = tail;
+        for i in (0..body.len()).rev() {
+            after = self.statement(alloc, &body[i], after, exit)?;
+        }
+        Ok(after)
+    }
+
+    #[cycle(code)]
+    fn statement(
+        &mut self,
+        alloc: Global,
+        statement: &Kernel,
+        tail: Tail,
+        exit: u32,
+    ) -> Result<Tail, Memory>
+        requires room { IsRoomy self.old (weight_of statement.now) }
+        requires sound { IsSoundOne statement.now }
+        ensures compiles { IfOk result (λ after. Compiles self.old.blocks self.new.blocks self.old.hidden exit (statement.now ∷ []) tail after) }
+        ensures slots { IfOk result (λ after. SlotsWithin self.old.blocks self.new.blocks tail after (37 * weight_of statement.now)) }
+        ensures grown { OnOk result (Grown self.old self.new (weight_of statement.now)) }
+        ensures fits { IfOk result (λ after. (n : Things) → IsWithin n self.new → exit < n.blocks → IsWell n statement.now → FitsTail n tail → Fitted n self.old.blocks self.new.blocks × FitsTail n after) }
+        ensures size { IfOk result (λ after. Sized self.old.blocks self.new.blocks tail after (weight_of statement.now)) }
+    {
+        match statement {
+            Kernel::Move { to, from } => before(alloc, move_instr(*to, *from), tail),
+            Kernel::Add { to, by } => {
+                let to = Cell::Var(*to);
+                let by = cell_for(*by);
+                before(alloc, Instr::Add { to, by }, tail)
+            }
+            Kernel::Load { to, table, offset } => {
+                let to = Cell::Var(*to);
+                let table = *table;
+                let offset = cell_for(*offset);
+                before(alloc, Instr::Load { to, table, offset }, tail)
+            }
+            Kernel::Store {
+                table,
+                offset,
+                from,
+            } => {
+                let table = *table;
+                let offset = cell_for(*offset);
+                let from = cell_for(*from);
+                before(
+                    alloc,
+                    Instr::Store {
+                        table,
+                        offset,
+                        from,
+                    },
+                    tail,
+                )
+            }
+            Kernel::If {
+                wide,
+                left,
+                right,
+                yes,
+                no,
+            } => self.branch(
+                alloc,
+                *wide,
+                *left,
+                *right,
+                yes.as_slice(),
+                no.as_slice(),
+                tail,
+                exit,
+            ),
+            Kernel::Loop { body } => self.endless(alloc, body.as_slice(), tail),
+            Kernel::Repeat { count, body } => self.counted(alloc, *count, body.as_slice(), tail),
+            Kernel::Lookup {
+                to,
+                table,
+                offset,
+                key,
+                probes,
+            } => {
+                let sought = Sought {
+                    to: *to,
+                    table: *table,
+                    key: *key,
+                };
+                self.lookup(alloc, sought, *offset, *probes, tail)
+            }
+            Kernel::Walk {
+                to,
+                table,
+                offset,
+                key,
+                nodes,
+            } => {
+                let sought = Sought {
+                    to: *to,
+                    table: *table,
+                    key: *key,
+                };
+                self.walk(alloc, sought, *offset, *nodes, tail)
+            }
+            Kernel::Break => Ok(Tail::To(exit)),
+            Kernel::Reply { words } => {
+                let words = cells(alloc, words.as_slice())?;
+                Ok(open(alloc, End::Reply { words }))
+            }
+        }
+    }
+
+    #[cycle(code)]
+    fn branch(
+        &mut self,
+        alloc: Global,
+        wide: bool,
+        left: Word,
+        right: Word,
+        yes: &[Kernel],
+        no: &[Kernel],
+        tail: Tail,
+        exit: u32,
+    ) -> Result<Tail, Memory>
+        requires room { IsRoomy self.old (1 + weight_of_all yes.now + weight_of_all no.now) }
+        requires sound { AllSound yes.now }
+        requires sound_too { AllSound no.now }
+        ensures compiles { IfOk result (λ after. Compiles self.old.blocks self.new.blocks self.old.hidden exit (Kernel.If wide left right yes.now no.now ∷ []) tail after) }
+        ensures slots { IfOk result (λ after. SlotsWithin self.old.blocks self.new.blocks tail after (37 * (1 + weight_of_all yes.now + weight_of_all no.now))) }
+        ensures grown { OnOk result (Grown self.old self.new (1 + weight_of_all yes.now + weight_of_all no.now)) }
+        ensures fits { IfOk result (λ after. (n : Things) → IsWithin n self.new → exit < n.blocks → IsCell n (cell_of left) → IsCell n (cell_of right) → AllWell n yes.now → AllWell n no.now → FitsTail n tail → Fitted n self.old.blocks self.new.blocks × FitsTail n after) }
+        ensures size { IfOk result (λ after. Sized self.old.blocks self.new.blocks tail after (1 + weight_of_all yes.now + weight_of_all no.now)) }
+    {
+        let next = self.label(tail)?;
+        let met = self.list(alloc, yes, Tail::To(next), exit)?;
+        let unmet = self.list(alloc, no, Tail::To(next), exit)?;
+        let yes = self.label(met)?;
+        let no = self.label(unmet)?;
+        Ok(open(alloc, test(wide, cell_for(left), cell_for(right), yes, no)))
+    }
+
+    #[cycle(code)]
+    fn endless(&mut self, alloc: Global, body: &[Kernel], tail: Tail) -> Result<Tail, Memory>
+        requires room { IsRoomy self.old (1 + weight_of_all body.now) }
+        requires sound { AllSound body.now }
+        ensures compiles { IfOk result (λ after. (exit : ℕ) → Compiles self.old.blocks self.new.blocks self.old.hidden exit (Kernel.Loop body.now ∷ []) tail after) }
+        ensures slots { IfOk result (λ after. SlotsWithin self.old.blocks self.new.blocks tail after (37 * (1 + weight_of_all body.now))) }
+        ensures grown { OnOk result (Grown self.old self.new (1 + weight_of_all body.now)) }
+        ensures fits { IfOk result (λ after. (n : Things) → IsWithin n self.new → AllWell n body.now → FitsTail n tail → Fitted n self.old.blocks self.new.blocks × FitsTail n after) }
+        ensures size { IfOk result (λ after. Sized self.old.blocks self.new.blocks tail after (1 + weight_of_all body.now)) }
+    {
+        let out = self.label(tail)?;
+        let head = self.reserve(alloc)?;
+        let first = self.list(alloc, body, Tail::To(head), out)?;
+        self.bind(alloc, head, first)?;
+        Ok(Tail::To(head))
+    }
+
+    #[cycle(code)]
+    fn counted(
+        &mut self,
+        alloc: Global,
+        count: u32,
+        body: &[Kernel],
+        tail: Tail,
+    ) -> Result<Tail, Memory>
+        requires room { IsRoomy self.old (2 + weight_of_all body.now) }
+        requires sound { AllSound body.now }
+        ensures compiles { IfOk result (λ after. (exit : ℕ) → Compiles self.old.blocks self.new.blocks self.old.hidden exit (Kernel.Repeat count body.now ∷ []) tail after) }
+        ensures slots { IfOk result (λ after. SlotsWithin self.old.blocks self.new.blocks tail after (37 * (2 + weight_of_all body.now))) }
+        ensures grown { OnOk result (Grown self.old self.new (2 + weight_of_all body.now)) }
+        ensures fits { IfOk result (λ after. (n : Things) → IsWithin n self.new → AllWell n body.now → FitsTail n tail → Fitted n self.old.blocks self.new.blocks × FitsTail n after) }
+        ensures size { IfOk result (λ after. Sized self.old.blocks self.new.blocks tail after (2 + weight_of_all body.now)) }
+    {
+        let out = self.label(tail)?;
+        if count == 0 {
+            return Ok(Tail::To(out));
+        }
+        let counter = self.hidden;
+        self.hidden += 1;
+        let head = self.reserve(alloc)?;
+        let end = again(alloc, counter, count, out, head)?;
+        let first = self.list(alloc, body, end, out)?;
+        self.bind(alloc, head, first)?;
+        let to = Cell::Hidden(counter);
+        before(alloc, Instr::Set { to, value: 0 }, Tail::To(head))
+    }
+}

@@ -1,7 +1,0 @@
-use Rattle.std.proofs.Common.{refl}
-use Rattle.redn_kernel.proofs.TestPrograms as programs
-use Rattle.redn_kernel.proofs.tests.two_tests.Goals as goal
-
-pub returns : goal.returns
-returns c =
-    programs.is_single _ _ _ _ _ _ _ _ c.one_chain.ensures c.new.ensures c.in_ok-vars.ensures (rw (c.in_ok-body.ensures, c.test-2.ensures, c.in_ok-inner.ensures, c.test.ensures, c.in_ok-two.ensures, c.in_ok-one.ensures, c.in_ok-zero.ensures) refl) programs.two_tests

@@ -1,0 +1,29 @@
+-- Lookups as core statements, computed.
+use Rattle.std.proofs.Common.{[], ◌∷◌, refl}
+use Rattle.redn_words.specs.declared.types.Obs.TheVariants as shows
+use Rattle.redn_words.specs.Words.{number, spelled}
+use Rattle.redn_kernel.specs.declared.types.Word.TheVariants.{Var, Num}
+use Rattle.redn_kernel.specs.declared.types.Core.{out-Core}
+use Rattle.redn_kernel.specs.declared.types.Core.TheBlock.{shown-the_row-Core-0}
+use denote.Hole.Carrier as carrier
+use Rattle.redn_kernel.specs.CoreRun.{core_does, core_item_does}
+use Rattle.redn_kernel.proofs.WorkedCores.{Runs, before, words_of}
+use Rattle.redn_lookup.specs.Lookup.{cores_of}
+
+-- lookup x = t[o] key k probes 2: x is variable 0, o variable 1 and k variable 2
+the_second_bucket_has_the_key : Runs (words_of (5 ∷ 50 ∷ 7 ∷ 70 ∷ [])) 5 (before (1 ∷ 0 ∷ 7 ∷ []) (cores_of 0 0 (Var 1) (Var 2) 1))
+    (shows.Look 0 0 0 5 ∷ shows.Look 0 0 16 7 ∷ shows.Load 0 0 0 24 70 ∷ []) (70 ∷ 0 ∷ 7 ∷ [])
+unfolding core_does core_item_does number spelled out-Core carrier.out shown-the_row-Core-0 carrier.shown carrier.hidden
+the_second_bucket_has_the_key = (refl, refl, refl, refl)
+
+-- a key behind the buckets that are looked at isn't found
+too_few_probes : Runs (words_of (5 ∷ 50 ∷ 7 ∷ 70 ∷ [])) 2 (before (1 ∷ 0 ∷ 7 ∷ []) (cores_of 0 0 (Var 1) (Var 2) 0))
+    (shows.Look 0 0 0 5 ∷ []) (1 ∷ 0 ∷ 7 ∷ [])
+unfolding core_does core_item_does number spelled out-Core carrier.out shown-the_row-Core-0 carrier.shown carrier.hidden
+too_few_probes = (refl, refl, refl, refl)
+
+-- the first of two buckets with the key counts
+the_first_bucket_counts : Runs (words_of (7 ∷ 70 ∷ 7 ∷ 71 ∷ [])) 3 (before (1 ∷ []) (cores_of 0 0 (Num 0) (Num 7) 3))
+    (shows.Look 0 0 0 7 ∷ shows.Load 0 0 0 8 70 ∷ []) (70 ∷ [])
+unfolding core_does core_item_does number spelled out-Core carrier.out shown-the_row-Core-0 carrier.shown carrier.hidden
+the_first_bucket_counts = (refl, refl, refl, refl)

@@ -1,0 +1,35 @@
+use Rattle.std.proofs.Common.{◌≡◌, ℕ, suc, ◌-◌, ◌<◌, List, Result, Ok, Err, IfOk, sym, ap, ◌∙◌, subst, arith}
+use Rattle.redn_words.specs.declared.types.Memory.{Memory}
+use Rattle.redn_kernel.specs.declared.types.Word.{Word}
+use Rattle.redn_kernel.specs.declared.types.Kernel.{Kernel}
+use Rattle.redn_kernel.specs.declared.types.Kernel.TheVariants as k
+use Rattle.redn_kernel.specs.declared.types.Core.{Core}
+use Rattle.redn_kernel.specs.Source.{value_of}
+use Rattle.redn_kernel.specs.Becomes.{Becomes}
+use Rattle.redn_kernel.specs.Found.{LeaveFound, nodes}
+use Rattle.redn_walk.specs.Walk.{cores_of}
+use Rattle.redn_walk.proofs.Walks.{walk_becomes, walk_finds, finds_in, some_nodes}
+use Rattle.redn_walk.proofs.walk_core.Goals as goal
+
+ok_of : (r : Result (List Core) Memory) (made : List Core) (P : List Core → Type 0) → P made → IfOk r (λ cores. cores ≡ made) → IfOk r P
+ok_of (Ok cores) made P h e = subst P (sym e) h
+ok_of (Err e) made P h t = t
+
+pub returns-clause-same : goal.returns-clause-same
+returns-clause-same c =
+    let i = c.in-Walk in
+    let some = some_nodes c.args.s.now i.to i.table i.nodes i.offset i.key c.requires i.is in
+    let few : i.nodes < 281474976710656 = omega arith in
+    ok_of c.cores.result _ (Becomes c.args.s.now) (subst (λ (st : Kernel). Becomes st (cores_of i.to i.table i.offset i.key i.nodes)) (sym i.is) (walk_becomes i.to i.table i.offset i.key i.nodes some few)) c.cores.ensures
+
+pub returns-clause-finds : goal.returns-clause-finds
+returns-clause-finds c =
+    let i = c.in-Walk in
+    let some = some_nodes c.args.s.now i.to i.table i.nodes i.offset i.key c.requires i.is in
+    let all : suc (i.nodes - 1) ≡ i.nodes = omega (arith, some) in
+    let few : suc (i.nodes - 1) < 281474976710656 = omega arith in
+    ok_of c.cores.result _ (λ cores. (to table : ℕ) (offset key : Word) (count : ℕ) → c.args.s.now ≡ k.Walk to table offset key count → LeaveFound to table key (λ tables vars. nodes tables table count (value_of vars offset)) cores)
+    (λ to table offset key count is.
+    finds_in (cores_of i.to i.table i.offset i.key i.nodes) i.to i.table (suc (i.nodes - 1)) to table count i.offset i.key offset key (ap (k.Walk i.to i.table i.offset i.key) all ∙ sym i.is ∙ is)
+    (subst (λ (n : ℕ). LeaveFound i.to i.table i.key (λ tables vars. nodes tables i.table (suc (i.nodes - 1)) (value_of vars i.offset)) (cores_of i.to i.table i.offset i.key n)) all (walk_finds i.to i.table i.offset i.key (i.nodes - 1) few)))
+    c.cores.ensures

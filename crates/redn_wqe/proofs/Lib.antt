@@ -1,0 +1,4 @@
+pub mod Digits
+pub mod FieldPlaces
+pub mod Slots
+mod Worked
