@@ -1,0 +1,39 @@
+use Rattle.std.proofs.Common.{ℕ, List, length, refl, ap, ◌∙◌, arith}
+use Rattle.std.proofs.lemmas.Result.{on_ok_weaker}
+use Rattle.redn_segment.specs.declared.types.SlotRef.{SlotRef}
+use Rattle.redn_segment.specs.declared.types.Draft.{Draft}
+use Rattle.redn_segment.specs.Building.{drafts_of}
+use Rattle.redn_segment.specs.Drafts.{slot_from}
+use Rattle.redn_segment.specs.Effects.{tests_low, first_slot}
+use Rattle.redn_segment.specs.Footprints.{segments_apart}
+use Rattle.redn_segment.proofs.Appending.{appends, stands_apart}
+use Rattle.redn_segment.proofs.Growing.{with_more}
+use Rattle.redn_cas.specs.Tests.{test48}
+use Rattle.redn_cas.proofs.Test48.{test48_is}
+use Rattle.redn_cas.proofs.tests_of.test48_template.Goals as goal
+
+pub push_segments-requires : goal.push_segments-requires
+push_segments-requires c =
+    let a = c.args in
+    record {
+      few = omega (arith, ap (λ (l : List (List Draft)). length (drafts_of l)) c.in_ok-segments.ensures);
+      apart = ap (segments_apart (first_slot a.b.now)) c.in_ok-segments.ensures ∙ stands_apart (λ (slot : ℕ → SlotRef). test48 slot a.left a.right a.yes a.no) (λ (slot : ℕ → SlotRef). tests_low a.left a.right a.yes a.no (slot 6)) 4 6 1 (test48_is a.left a.right a.yes a.no) a.b.now;
+    }
+
+pub returns-clause-appended : goal.returns-clause-appended
+returns-clause-appended c =
+    let a = c.args in
+    let append = appends (λ (slot : ℕ → SlotRef). test48 slot a.left a.right a.yes a.no) (λ (slot : ℕ → SlotRef). tests_low a.left a.right a.yes a.no (slot 6)) 4 6 1 (test48_is a.left a.right a.yes a.no) a.b.now c.push_segments.new.self in
+    on_ok_weaker c.push_segments.result (λ e. append (e ∙ ap (with_more a.b.now) c.in_ok-segments.ensures)) c.push_segments.ensures
+
+pub returns-clause-cost : goal.returns-clause-cost
+returns-clause-cost c =
+    let a = c.args in
+    let slot = slot_from a.b.now.ring (length (drafts_of a.b.now.segments)) in
+    on_ok_weaker c.push_segments.result (λ e.
+    record {
+      added = test48 slot a.left a.right a.yes a.no;
+      appended = e ∙ ap (with_more a.b.now) c.in_ok-segments.ensures;
+      slots_are = refl;
+      actions_are = refl;
+    }) c.push_segments.ensures

@@ -1,0 +1,4 @@
+pub mod Moving
+pub mod Replying
+pub mod Appended
+mod Worked

@@ -1,0 +1,15 @@
+pub mod Building
+pub mod Sites
+pub mod Plain
+pub mod Primed
+pub mod Drafts
+pub mod Effects
+pub mod Renaming
+pub mod Parts
+pub mod Footprints
+pub mod Opcodes
+pub mod Templates
+pub mod Laws
+pub mod Costs
+pub mod Homes
+pub mod Orders

@@ -1,0 +1,19 @@
+//! Drafts of work requests, whose places are still names, and rings of them.
+#![tactic(auto)]
+
+mod builder;
+mod drafts;
+mod footprints;
+mod laws;
+#[cfg(test)]
+mod tests;
+mod types;
+
+pub use builder::RingBuilder;
+pub use drafts::{
+    CAS_WORD, READ_WORD, WRITE_WORD, add_to, choose, clear, compare_high, compare_low, copy, field,
+    fill_high, fill_low, read_table, segment, swap_in, turnable,
+};
+pub use footprints::footprints_apart;
+pub use laws::{runs_renumbered, templates_in_turn};
+pub use types::{Draft, Field48, Ring, Segment, Site, SlotRef, Space};
