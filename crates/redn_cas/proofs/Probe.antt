@@ -35,6 +35,7 @@ use Rattle.redn_segment.proofs.Tame.{tame_probes}
 use Rattle.redn_words.specs.Requests.{opcode_named}
 use Rattle.redn_segment.proofs.Telling.{tells}
 use Rattle.redn_segment.proofs.Appending.{IsTemplate}
+use Rattle.redn_segment.proofs.Suiting.{suiting}
 use Rattle.redn_cas.specs.Tests.{probe}
 
 module _ (chain : View) (s : Bytes) (to : Cell) (t : ℕ) (offset key : Cell) (hit miss : ℕ) where
@@ -518,6 +519,13 @@ probe_opcodes (Var i) t offset key hit miss target = refl
 probe_opcodes (Hidden i) t offset key hit miss target = refl
 probe_opcodes (Argument i) t offset key hit miss target = absurd target
 probe_opcodes (Num n) t offset key hit miss target = absurd target
+
+pub probe_suits : (to : Cell) → IsTarget to → (t : ℕ) (offset key : Cell) (hit miss : ℕ) → suiting [] (own 0) (drafts_of (probe own to t offset key hit miss)) ≡ true
+unfolding number spelled opcode_named
+probe_suits (Var i) target t offset key hit miss = refl
+probe_suits (Hidden i) target t offset key hit miss = refl
+probe_suits (Argument i) target t offset key hit miss = absurd target
+probe_suits (Num n) target t offset key hit miss = absurd target
 
 pub probe_is : (to : Cell) → IsTarget to → (t : ℕ) (offset key : Cell) (hit miss : ℕ) → IsTemplate (λ (slot : ℕ → SlotRef). probe slot to t offset key hit miss) (λ (slot : ℕ → SlotRef). probes to t offset key hit miss (slot 6) (slot 13) (slot 15)) 6 15 1
 probe_is to target t offset key hit miss =

@@ -28,6 +28,7 @@ use Rattle.redn_segment.proofs.Tame.{tame_tests_low}
 use Rattle.redn_words.specs.Requests.{opcode_named}
 use Rattle.redn_segment.proofs.Telling.{tells}
 use Rattle.redn_segment.proofs.Appending.{IsTemplate}
+use Rattle.redn_segment.proofs.Suiting.{suiting}
 use Rattle.redn_cas.specs.Tests.{test48}
 
 module _ (chain : View) (s : Bytes) (left right : Cell) (same other : ℕ) where
@@ -177,6 +178,10 @@ test48_does left right same other chain bytes s whole room primed = meets chain 
 test48_opcodes : (left right : Cell) (same other : ℕ) → tells (own 0) (test48 own left right same other) ≡ true
 unfolding number spelled opcode_named
 test48_opcodes left right same other = refl
+
+pub test48_suits : (left right : Cell) (same other : ℕ) → suiting [] (own 0) (drafts_of (test48 own left right same other)) ≡ true
+unfolding number spelled opcode_named
+test48_suits left right same other = refl
 
 pub test48_is : (left right : Cell) (same other : ℕ) → IsTemplate (λ (slot : ℕ → SlotRef). test48 slot left right same other) (λ (slot : ℕ → SlotRef). tests_low left right same other (slot 6)) 4 6 1
 test48_is left right same other =

@@ -30,6 +30,7 @@ use Rattle.redn_segment.proofs.Tame.{tame_tests_all}
 use Rattle.redn_words.specs.Requests.{opcode_named}
 use Rattle.redn_segment.proofs.Telling.{tells}
 use Rattle.redn_segment.proofs.Appending.{IsTemplate}
+use Rattle.redn_segment.proofs.Suiting.{suiting}
 use Rattle.redn_cas.specs.Tests.{test64}
 
 module _ (chain : View) (s : Bytes) (left right : Cell) (same other : ℕ) where
@@ -292,6 +293,10 @@ module _ (chain : View) (s : Bytes) (left right : Cell) (same other : ℕ) where
 test64_opcodes : (left right : Cell) (same other : ℕ) → tells (own 0) (test64 own left right same other) ≡ true
 unfolding number spelled opcode_named
 test64_opcodes left right same other = refl
+
+pub test64_suits : (left right : Cell) (same other : ℕ) → suiting [] (own 0) (drafts_of (test64 own left right same other)) ≡ true
+unfolding number spelled opcode_named
+test64_suits left right same other = refl
 
 pub test64_is : (left right : Cell) (same other : ℕ) → IsTemplate (λ (slot : ℕ → SlotRef). test64 slot left right same other) (λ (slot : ℕ → SlotRef). tests_all left right same other (slot 10)) 5 10 1
 test64_is left right same other =

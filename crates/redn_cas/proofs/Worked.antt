@@ -1,7 +1,7 @@
 -- Tests computed on one state, and what a wrong fill does.
 use Rattle.std.proofs.Common.{◌≡◌, ℕ, ◌+◌, ◌*◌, ◌^◌, true, false, List, [], ◌∷◌, get_or, map, replicate, refl}
 use Rattle.std.specs.Prelude.{if◌then◌else◌, ◌==◌, slice_index}
-use Rattle.std.specs.List.{range_with_len}
+use Rattle.std.specs.List.{range_with_len, count_by}
 use Rattle.redn_segment.specs.declared.types.Space.{Space}
 use Rattle.redn_cas.specs.WithoutCas.{without_cas}
 use Rattle.redn_words.specs.declared.types.Obs.{Obs}
@@ -18,6 +18,7 @@ use Rattle.redn_segment.specs.Drafts.{slot_from, field, copy, swap_in, turnable,
 use Rattle.redn_segment.specs.Plain.{Bytes, View, placed, Outcome, Went, Faults, Bad, acts, runs}
 use Rattle.redn_segment.specs.Primed.{draft_bytes, writes_slot}
 use Rattle.redn_segment.specs.Footprints.{is_apart}
+use Rattle.redn_segment.specs.Opcodes.{turns}
 use Rattle.redn_cas.specs.Tests.{test48, test64, probe}
 
 abbrev own : ℕ → SlotRef
@@ -177,6 +178,16 @@ look_past = refl
 load_past : laps_shown (look_at 8) (state (look_at 8) 9 0) ≡ replicate 3 (shows.Look 2 0 8 9 ∷ shows.Fault 2 0 16 ∷ [])
 unfolding acts opcode_named number spelled
 load_past = refl
+
+-- how many drafts turn each slot that is turned, and the slot behind
+turned_low : map (λ (k : ℕ). count_by (turns (own k)) low_test) (5 ∷ 6 ∷ []) ≡ 1 ∷ 0 ∷ []
+turned_low = refl
+
+turned_wide : map (λ (k : ℕ). count_by (turns (own k)) wide_test) (8 ∷ 9 ∷ 10 ∷ []) ≡ 1 ∷ 1 ∷ 0 ∷ []
+turned_wide = refl
+
+turned_look : map (λ (k : ℕ). count_by (turns (own k)) look) (13 ∷ 14 ∷ 15 ∷ []) ≡ 1 ∷ 1 ∷ 0 ∷ []
+turned_look = refl
 
 -- with a NOOP in place of the CAS equal words are not seen, and a key that is there is missed
 unseen : (let ds : List Draft = map without_cas low_test in choices ds (own 6) (state ds 5 5)) ≡ replicate 3 (4 ∷ 7 ∷ [])

@@ -1,8 +1,9 @@
-ghost use Rattle.std.specs.Prelude.{◌≡◌, ◌+◌, ◌<◌, ◌^◌, length, OnOk, IfOk};
+ghost use Rattle.std.specs.Prelude.{◌≡◌, ◌+◌, ◌<◌, ◌^◌, [], length, OnOk, IfOk};
 ghost use Rattle.redn_segment.specs.Building.{drafts_of};
 ghost use Rattle.redn_segment.specs.Drafts.{slot_from};
 ghost use Rattle.redn_segment.specs.Effects.{IsTarget, probes, tests_all, tests_low};
 ghost use Rattle.redn_segment.specs.Costs.{Costs};
+ghost use Rattle.redn_segment.specs.Rights.{Rights};
 ghost use Rattle.redn_segment.specs.Templates.{Appends};
 ghost use Rattle.redn_cas.specs.Tests as drafts;
 
@@ -67,6 +68,7 @@ pub fn test48_template(
     ensures appended { OnOk result
         (Appends b.old b.new 4 6 1 (tests_low left right yes no (slot_from b.old.ring (length (drafts_of b.old.segments)) 6))) }
     ensures cost { OnOk result (Costs b.old b.new 22 72) }
+    ensures rights { OnOk result (Rights b.old b.new []) }
 {
     let segments = test48_segments(alloc, b, left, right, yes, no)?;
     b.push_segments(segments)
@@ -130,6 +132,7 @@ pub fn test64_template(
     ensures appended { OnOk result
         (Appends b.old b.new 5 10 1 (tests_all left right yes no (slot_from b.old.ring (length (drafts_of b.old.segments)) 10))) }
     ensures cost { OnOk result (Costs b.old b.new 30 100) }
+    ensures rights { OnOk result (Rights b.old b.new []) }
 {
     let segments = test64_segments(alloc, b, left, right, yes, no)?;
     b.push_segments(segments)
@@ -240,6 +243,7 @@ pub fn probe_template(
         (Appends b.old b.new 6 15 1 (let slot = slot_from b.old.ring (length (drafts_of b.old.segments)) in
         probes to table offset key hit miss (slot 6) (slot 13) (slot 15))) }
     ensures cost { OnOk result (Costs b.old b.new 39 132) }
+    ensures rights { OnOk result (Rights b.old b.new []) }
 {
     let segments = probe_segments(alloc, b, to, table, offset, key, hit, miss)?;
     b.push_segments(segments)

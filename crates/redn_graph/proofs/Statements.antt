@@ -22,6 +22,7 @@ use Rattle.redn_graph.specs.declared.build.Tail.{Tail}
 use Rattle.redn_graph.specs.declared.build.Tail.TheVariants as tail
 use Rattle.redn_graph.specs.Code.{Meaning, InstrRuns, EndRuns, Compiles, Precedes, Labels, IsOpen, block_worth, jump_worth}
 use Rattle.redn_kernel.specs.CoreRun.{cell_of}
+use Rattle.redn_graph.specs.Statements.{DoesStatement}
 use Rattle.redn_graph.specs.Words.{move_of, test_end}
 use Rattle.redn_graph.proofs.Doing.{doing, set_runs, move_runs}
 use Rattle.redn_graph.proofs.Building.{compiles_instr, compiles_end, compiles_branch}
@@ -55,12 +56,15 @@ pub move_of_runs : (x : ℕ) (a : Word) (m : Meaning) → InstrRuns (move_of x a
 move_of_runs x (Var y) m = move_runs m x (Var y)
 move_of_runs x (Num n) m = set_runs m x n
 
+-- an instruction that was made for a statement does what it does
+pub does_as : (st kind : Kernel) (instr made : Instr) → st ≡ kind → made ≡ instr → ((m : Meaning) → InstrRuns instr (doing kind m) m block_worth jump_worth) → DoesStatement st made
+does_as st kind instr made is same runs =
+    subst (λ (u : Kernel). DoesStatement u made) (sym is) (subst (λ (i : Instr). DoesStatement kind i) (sym same) runs)
+
 -- a statement that is one instruction
-pub compiles_as : (blocks : List Block) (hidden exit : ℕ) (st kind : Kernel) (instr made : Instr) (t : Tail) (r : Result Tail Memory) → st ≡ kind → made ≡ instr → ((m : Meaning) → InstrRuns instr (doing kind m) m block_worth jump_worth) → IfOk r (λ after. Precedes made t after) → IfOk r (λ after. Compiles blocks blocks hidden exit (st ∷ []) t after)
-compiles_as blocks hidden exit st kind instr made t r is same runs =
-    ok_still r (Precedes made t) (Compiles blocks blocks hidden exit (st ∷ []) t)
-    (λ after p. subst (λ (u : Kernel). Compiles blocks blocks hidden exit (u ∷ []) t after) (sym is)
-    (compiles_instr blocks hidden exit kind instr t after runs (subst (λ (i : Instr). Precedes i t after) same p)))
+pub compiles_as : (blocks : List Block) (hidden exit : ℕ) (st : Kernel) (instr : Instr) (t : Tail) (r : Result Tail Memory) → DoesStatement st instr → IfOk r (λ after. Precedes instr t after) → IfOk r (λ after. Compiles blocks blocks hidden exit (st ∷ []) t after)
+compiles_as blocks hidden exit st instr t r runs =
+    ok_still r (Precedes instr t) (Compiles blocks blocks hidden exit (st ∷ []) t) (λ after p. compiles_instr blocks hidden exit st instr t after runs p)
 
 -- a statement that is an end
 pub compiles_alone : (blocks : List Block) (hidden exit : ℕ) (st kind : Kernel) (end made : End) (t after : Tail) → st ≡ kind → made ≡ end → ((all : List Meaning) (m : Meaning) → EndRuns all end (doing kind m) block_worth) → IsOpen after [] made → Compiles blocks blocks hidden exit (st ∷ []) t after

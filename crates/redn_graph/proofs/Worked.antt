@@ -20,6 +20,7 @@ use Rattle.redn_graph.specs.declared.types.End.{End}
 use Rattle.redn_graph.specs.declared.types.End.TheVariants as e
 use Rattle.redn_graph.specs.declared.types.Block.{Block}
 use Rattle.redn_graph.specs.declared.types.Graph.{Graph}
+use Rattle.redn_graph.specs.Statements.{is_plain, is_search}
 use Rattle.redn_graph.specs.Run.{GraphState, graph_step, graph_start, instr_does, end_does}
 
 -- what n steps of chain 0 show, each on the tables that the one before left
@@ -148,3 +149,16 @@ the_second_node : Beside (table (0 ∷ 5 ∷ 50 ∷ 32 ∷ 7 ∷ 70 ∷ 0 ∷ []
     (shows.Look 0 0 8 5 ∷ shows.Look 0 0 24 32 ∷ shows.Look 0 0 32 7 ∷ shows.Load 0 0 0 40 70 ∷ reply_of 70 ∷ [])
 unfolding graph_step instr_does end_does source_start source_step item_does statement_does number spelled out-Kernel carrier.out shown-the_row-Kernel-0 carrier.shown carrier.hidden
 the_second_node = (refl, refl)
+
+-- which statements are one instruction, and which look for a key
+a_load_is_plain : (is_plain (s.Load 0 0 (word.Var 1)) ≡ true) × (is_search (s.Load 0 0 (word.Var 1)) ≡ false)
+unfolding out-Kernel carrier.out shown-the_row-Kernel-0 carrier.shown carrier.hidden
+a_load_is_plain = (refl, refl)
+
+a_walk_is_a_search : (is_plain (s.Walk 0 0 (word.Num 8) (word.Num 7) 3) ≡ false) × (is_search (s.Walk 0 0 (word.Num 8) (word.Num 7) 3) ≡ true)
+unfolding out-Kernel carrier.out shown-the_row-Kernel-0 carrier.shown carrier.hidden
+a_walk_is_a_search = (refl, refl)
+
+a_break_is_neither : (is_plain s.Break ≡ false) × (is_search s.Break ≡ false)
+unfolding out-Kernel carrier.out shown-the_row-Kernel-0 carrier.shown carrier.hidden
+a_break_is_neither = (refl, refl)

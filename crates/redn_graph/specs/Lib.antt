@@ -1,6 +1,7 @@
 pub mod Run
 pub mod Follows
 pub mod Code
+pub mod Statements
 pub mod Words
 pub mod Slots
 pub mod Growth

@@ -1,9 +1,10 @@
 //! Blocks, from the last to the first.
 
-ghost use Rattle.std.specs.Prelude.{◌≡◌, ◌≢◌, ℕ, ◌+◌, ◌*◌, ◌^◌, ◌<◌, ◌≤◌, List, [], ◌∷◌, ◌++◌, length, map, slice_get, IfOk, OnOk, Some};
+ghost use Rattle.std.specs.Prelude.{◌≡◌, ◌≢◌, ℕ, true, ◌+◌, ◌*◌, ◌^◌, ◌<◌, ◌≤◌, List, [], ◌∷◌, ◌++◌, length, map, slice_get, IfOk, OnOk, Some};
 ghost use Rattle.redn_kernel.specs.Program.{weight_of, weight_of_all};
 ghost use Rattle.redn_kernel.specs.CoreRun.{cell_of};
 ghost use Rattle.redn_graph.specs.Words.{move_of, test_end, counts, counted};
+ghost use Rattle.redn_graph.specs.Statements.{is_plain, is_search, DoesStatement};
 ghost use Rattle.redn_graph.specs.Code.{Compiles, Precedes, Labels, Closes, IsOpen};
 ghost use Rattle.redn_graph.specs.Searches.{Misses, probe_of, skips, begin_at, begin_walk, follows_next, at_last};
 ghost use Rattle.redn_graph.specs.Slots.{SlotsWithin, Sized, AreSmall, block_slots, all_slots, tail_slots, tail_size};
@@ -35,6 +36,36 @@ pub fn move_instr(to: u16, from: Word) -> Instr
             from: Cell::Var(x),
         },
         Word::Num(value) => Instr::Set { to, value },
+    }
+}
+
+/// The instruction of a statement that is one.
+fn plain(statement: &Kernel) -> Instr
+    requires { is_plain statement.now ≡ true }
+    ensures does { DoesStatement statement.now result }
+    ensures fits { (n : Things) → IsWell n statement.now → FitsInstr n result }
+{
+    match statement {
+        Kernel::Move { to, from } => move_instr(*to, *from),
+        Kernel::Add { to, by } => Instr::Add {
+            to: Cell::Var(*to),
+            by: cell_for(*by),
+        },
+        Kernel::Load { to, table, offset } => Instr::Load {
+            to: Cell::Var(*to),
+            table: *table,
+            offset: cell_for(*offset),
+        },
+        Kernel::Store {
+            table,
+            offset,
+            from,
+        } => Instr::Store {
+            table: *table,
+            offset: cell_for(*offset),
+            from: cell_for(*from),
+        },
+        _ => unreachable!(),
     }
 }
 
@@ -393,6 +424,50 @@ impl Builder {
         Ok(first)
     }
 
+    /// Code for a look for a key in a table.
+    fn search(&mut self, alloc: Global, statement: &Kernel, tail: Tail) -> Result<Tail, Memory>
+        requires room { IsRoomy self.old (weight_of statement.now) }
+        requires sound { IsSoundOne statement.now }
+        requires looks { is_search statement.now ≡ true }
+        ensures compiles { IfOk result (λ after. (hidden exit : ℕ) → Compiles self.old.blocks self.new.blocks hidden exit (statement.now ∷ []) tail after) }
+        ensures slots { IfOk result (λ after. SlotsWithin self.old.blocks self.new.blocks tail after (37 * weight_of statement.now)) }
+        ensures grown { OnOk result (Grown self.old self.new (weight_of statement.now)) }
+        ensures fits { IfOk result (λ after. (n : Things) → IsWithin n self.new → IsWell n statement.now → FitsTail n tail → Fitted n self.old.blocks self.new.blocks × FitsTail n after) }
+        ensures size { IfOk result (λ after. Sized self.old.blocks self.new.blocks tail after (weight_of statement.now)) }
+    {
+        match statement {
+            Kernel::Lookup {
+                to,
+                table,
+                offset,
+                key,
+                probes,
+            } => {
+                let sought = Sought {
+                    to: *to,
+                    table: *table,
+                    key: *key,
+                };
+                self.lookup(alloc, sought, *offset, *probes, tail)
+            }
+            Kernel::Walk {
+                to,
+                table,
+                offset,
+                key,
+                nodes,
+            } => {
+                let sought = Sought {
+                    to: *to,
+                    table: *table,
+                    key: *key,
+                };
+                self.walk(alloc, sought, *offset, *nodes, tail)
+            }
+            _ => unreachable!(),
+        }
+    }
+
     /// Code for some statements, before what follows them. A break leads to `exit`.
     #[cycle(code)]
     pub fn list(
@@ -434,36 +509,6 @@ impl Builder {
         ensures size { IfOk result (λ after. Sized self.old.blocks self.new.blocks tail after (weight_of statement.now)) }
     {
         match statement {
-            Kernel::Move { to, from } => before(alloc, move_instr(*to, *from), tail),
-            Kernel::Add { to, by } => {
-                let to = Cell::Var(*to);
-                let by = cell_for(*by);
-                before(alloc, Instr::Add { to, by }, tail)
-            }
-            Kernel::Load { to, table, offset } => {
-                let to = Cell::Var(*to);
-                let table = *table;
-                let offset = cell_for(*offset);
-                before(alloc, Instr::Load { to, table, offset }, tail)
-            }
-            Kernel::Store {
-                table,
-                offset,
-                from,
-            } => {
-                let table = *table;
-                let offset = cell_for(*offset);
-                let from = cell_for(*from);
-                before(
-                    alloc,
-                    Instr::Store {
-                        table,
-                        offset,
-                        from,
-                    },
-                    tail,
-                )
-            }
             Kernel::If {
                 wide,
                 left,
@@ -482,39 +527,14 @@ impl Builder {
             ),
             Kernel::Loop { body } => self.endless(alloc, body.as_slice(), tail),
             Kernel::Repeat { count, body } => self.counted(alloc, *count, body.as_slice(), tail),
-            Kernel::Lookup {
-                to,
-                table,
-                offset,
-                key,
-                probes,
-            } => {
-                let sought = Sought {
-                    to: *to,
-                    table: *table,
-                    key: *key,
-                };
-                self.lookup(alloc, sought, *offset, *probes, tail)
-            }
-            Kernel::Walk {
-                to,
-                table,
-                offset,
-                key,
-                nodes,
-            } => {
-                let sought = Sought {
-                    to: *to,
-                    table: *table,
-                    key: *key,
-                };
-                self.walk(alloc, sought, *offset, *nodes, tail)
-            }
             Kernel::Break => Ok(Tail::To(exit)),
             Kernel::Reply { words } => {
                 let words = cells(alloc, words.as_slice())?;
                 Ok(open(alloc, End::Reply { words }))
             }
+            Kernel::Lookup { .. } => self.search(alloc, statement, tail),
+            Kernel::Walk { .. } => self.search(alloc, statement, tail),
+            _ => before(alloc, plain(statement), tail),
         }
     }
 

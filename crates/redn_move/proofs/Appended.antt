@@ -1,5 +1,5 @@
 -- What a reply appends.
-use Rattle.std.proofs.Common.{◌≡◌, ℕ, ◌+◌, ◌-◌, ◌*◌, ◌<◌, ◌≤◌, true, false, not, ◌&&◌, ◌++◌, List, [], ◌∷◌, length, map, refl, sym, ap, ◌∙◌, arith, length-append}
+use Rattle.std.proofs.Common.{◌≡◌, ℕ, ◌+◌, ◌-◌, ◌*◌, ◌<◌, ◌≤◌, true, false, not, Bool, ◌&&◌, ◌||◌, ◌++◌, List, [], ◌∷◌, length, map, refl, sym, ap, ◌∙◌, arith, length-append}
 use Rattle.std.specs.Prelude.{nat_le, nat_lt, min, max, slice_index}
 use Rattle.std.specs.List.{list_all, list_any, sum_by}
 use Rattle.std.proofs.lemmas.List.Sums.{sum_by-cons}
@@ -20,7 +20,9 @@ use Rattle.redn_segment.specs.Effects.{replies, first_slot, slot_behind}
 use Rattle.redn_segment.specs.Footprints.{both_sides, ends_inside, drafts_free, all_free, spares, segments_apart}
 use Rattle.redn_segment.specs.Parts.{IsTame}
 use Rattle.redn_segment.specs.Sites.{next_slot}
-use Rattle.redn_segment.specs.Opcodes.{turns, TellOpcodes}
+use Rattle.redn_segment.specs.Opcodes.{word_opcode, turns, TellOpcodes}
+use Rattle.redn_segment.specs.Rights.{Rights}
+use Rattle.redn_segment.proofs.Suiting.{turned_well, all_suit, both_turn, turned_once, turns_within, suiting, rights_by}
 use Rattle.redn_segment.proofs.Telling.{is_known, spared, all_fine, all_sound, all_told, segments_told, tell_opcodes}
 use Rattle.redn_segment.proofs.Both.{all_append}
 use Rattle.redn_segment.specs.Templates.{Appends, one_event, may_show, is_filled}
@@ -131,6 +133,44 @@ module _ (words : List Cell) (few : length words ≤ 8) (first : SlotRef) where
 
   reply_opcodes : TellOpcodes first (reply words)
   reply_opcodes = tell_opcodes first (reply words) (and_from (list_all (λ (d : Draft). is_known d.op) sent) _ known_sent (and_from (all_sound sent first first sent) _ (sound_from words 0 first (omega arith)) told_sent))
+
+-- the copies and the SEND suit their sides, and none of them turns a slot
+turn_nothing : (q : SlotRef) (test : Draft → Bool) (ws : List Cell) (i n : ℕ) → list_all (λ (e : Draft). not (turns q e) || test e) (copies_from i ws ++ send_words n ∷ []) ≡ true
+turn_nothing q test [] i n = refl
+turn_nothing q test (w ∷ ws) i n = turn_nothing q test ws (i + 1) n
+
+suit_sent : (all : List Draft) → ((q : SlotRef) (test : Draft → Bool) → list_all (λ (e : Draft). not (turns q e) || test e) all ≡ true) → (ws : List Cell) (i n : ℕ) (at : SlotRef) → all_suit [] all at (copies_from i ws ++ send_words n ∷ []) ≡ true
+suit_sent all none [] i n at =
+    let here = none at (λ (e : Draft). turned_well [] (send_words n) (word_opcode e.second)) in
+    rw here refl
+suit_sent all none (w ∷ ws) i n at =
+    let here = none at (λ (e : Draft). turned_well [] (copy (site.Cell w) 0 (site.ReplyWord i) 8) (word_opcode e.second)) in
+    let rest = suit_sent all none ws (i + 1) n (next_slot at) in
+    rw (here, rest) refl
+
+turns_alone : (w : Cell) (i : ℕ) (ws : List Cell) (j n : ℕ) → list_all (λ (f : Draft). not (both_turn (copy (site.Cell w) 0 (site.ReplyWord i) 8) f)) (copies_from j ws ++ send_words n ∷ []) ≡ true
+turns_alone w i [] j n = refl
+turns_alone w i (v ∷ ws) j n = turns_alone w i ws (j + 1) n
+
+once_sent : (ws : List Cell) (i n : ℕ) → turned_once (copies_from i ws ++ send_words n ∷ []) ≡ true
+once_sent [] i n = refl
+once_sent (w ∷ ws) i n =
+    let here = turns_alone w i ws (i + 1) n in
+    let rest = once_sent ws (i + 1) n in
+    rw (here, rest) refl
+
+within_sent : (at : SlotRef) (k : ℕ) (ws : List Cell) (i n : ℕ) → list_all (turns_within at k) (copies_from i ws ++ send_words n ∷ []) ≡ true
+within_sent at k [] i n = refl
+within_sent at k (w ∷ ws) i n = within_sent at k ws (i + 1) n
+
+suits_reply : (words : List Cell) (at : SlotRef) → suiting [] at (drafts_of (reply words)) ≡ true
+suits_reply words at =
+    let ds : List Draft = drafts_of (reply words) in
+    let n : ℕ = length words in
+    and_from (all_suit [] ds at ds) _ (suit_sent ds (λ q test. turn_nothing q test words 0 n) words 0 n at) (and_from (turned_once ds) _ (once_sent words 0 n) (within_sent at (length ds) words 0 n))
+
+pub reply_rights : (words : List Cell) (old new : Building) → new ≡ record old { segments = old.segments ++ reply words } → Rights old new []
+reply_rights words old new e = rights_by old new [] (reply words) e (suits_reply words (first_slot old))
 
 module _ (words : List Cell) (some : 1 ≤ length words) (few : length words ≤ 8) where
   filled : (ws : List Cell) → 1 ≤ length ws → is_filled 0 (reply ws) ≡ true

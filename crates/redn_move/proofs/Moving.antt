@@ -2,6 +2,7 @@
 use Rattle.std.proofs.Common.{◌≡◌, ℕ, ◌+◌, ◌*◌, ◌%◌, ◌^◌, ◌≤◌, true, false, ◌++◌, List, [], ◌∷◌, length, refl, sym, ap, ◌∙◌, arith}
 use Rattle.std.specs.Prelude.{if◌then◌else◌}
 use Rattle.std.proofs.lemmas.List.{append-nil}
+use Rattle.std.proofs.lemmas.Bool.{eq-eqb}
 use Rattle.std.proofs.lemmas.Bool.Decides.{nat_tests}
 use Rattle.redn_words.specs.declared.types.Opcode.TheVariants.{Write, Read, Add}
 use Rattle.redn_words.specs.declared.types.Obs.{Obs}
@@ -36,6 +37,7 @@ use Rattle.redn_segment.proofs.SameEffects.{same_chosen, same_holding, same_eith
 use Rattle.redn_segment.proofs.Tame.{tame_moves, tame_adds, tame_loads, tame_stores, tame_jumps}
 use Rattle.redn_segment.proofs.Telling.{tells}
 use Rattle.redn_segment.proofs.Appending.{IsTemplate}
+use Rattle.redn_segment.proofs.Suiting.{suiting}
 use Rattle.redn_move.specs.Adding.{add_segments, add_count}
 use Rattle.redn_move.specs.Moves.{move_word, add_number, add_cell, load, store, jump}
 
@@ -433,3 +435,42 @@ add_actions slot to (Num n) = refl
 add_actions slot to (Var i) = refl
 add_actions slot to (Hidden i) = refl
 add_actions slot to (Argument i) = refl
+
+-- what the drafts ask of the regions of their sides
+pub move_suits : (to from : Cell) → IsTarget to → suiting [] (own 0) (drafts_of (move_word own to from)) ≡ true
+move_suits (Var i) from target = refl
+move_suits (Hidden i) from target = refl
+move_suits (Argument i) from target = absurd target
+move_suits (Num n) from target = absurd target
+
+number_suits : (to : Cell) (n : ℕ) → IsTarget to → suiting [] (own 0) (drafts_of (add_number own to n)) ≡ true
+number_suits (Var i) n target = refl
+number_suits (Hidden i) n target = refl
+number_suits (Argument i) n target = absurd target
+number_suits (Num k) n target = absurd target
+
+cell_suits : (to by : Cell) → IsTarget to → suiting [] (own 0) (drafts_of (add_cell own to by)) ≡ true
+cell_suits (Var i) by target = refl
+cell_suits (Hidden i) by target = refl
+cell_suits (Argument i) by target = absurd target
+cell_suits (Num k) by target = absurd target
+
+pub add_suits : (to by : Cell) → IsTarget to → suiting [] (own 0) (drafts_of (add_segments own to by)) ≡ true
+add_suits to (Num n) target = number_suits to n target
+add_suits to (Var i) target = cell_suits to (Var i) target
+add_suits to (Hidden i) target = cell_suits to (Hidden i) target
+add_suits to (Argument i) target = cell_suits to (Argument i) target
+
+pub load_suits : (to : Cell) (t : ℕ) (offset : Cell) → IsTarget to → suiting [] (own 0) (drafts_of (load own to t offset)) ≡ true
+load_suits (Var i) t offset target = refl
+load_suits (Hidden i) t offset target = refl
+load_suits (Argument i) t offset target = absurd target
+load_suits (Num n) t offset target = absurd target
+
+pub store_suits : (t : ℕ) (offset from : Cell) → suiting (t ∷ []) (own 0) (drafts_of (store own t offset from)) ≡ true
+store_suits t offset from =
+    let same = eq-eqb t t refl in
+    rw same refl
+
+pub jump_suits : (to : ℕ) → suiting [] (own 0) (drafts_of (jump own to)) ≡ true
+jump_suits to = refl

@@ -1,10 +1,11 @@
-ghost use Rattle.std.specs.Prelude.{◌≡◌, ◌+◌, ◌*◌, ◌<◌, ◌^◌, ℕ, length, OnOk, IfOk};
+ghost use Rattle.std.specs.Prelude.{◌≡◌, ◌+◌, ◌*◌, ◌<◌, ◌^◌, ℕ, [], ◌∷◌, length, OnOk, IfOk};
 ghost use Rattle.redn_kernel.specs.declared.types.Cell.TheVariants.{Num};
 ghost use Rattle.redn_segment.specs.declared.types.SlotRef.{SlotRef as SpecSlot};
 ghost use Rattle.redn_segment.specs.Building.{drafts_of};
 ghost use Rattle.redn_segment.specs.Drafts.{slot_from};
 ghost use Rattle.redn_segment.specs.Effects.{IsTarget, moves, adds, loads, stores, jumps};
 ghost use Rattle.redn_segment.specs.Costs.{Costs};
+ghost use Rattle.redn_segment.specs.Rights.{Rights};
 ghost use Rattle.redn_segment.specs.Templates.{Appends};
 ghost use Rattle.redn_move.specs.Adding.{add_segments as segments_to_add, add_count};
 ghost use Rattle.redn_move.specs.Moves as moves;
@@ -20,6 +21,7 @@ pub fn set_template(alloc: Global, b: &mut RingBuilder, to: Cell, value: u64) ->
     requires target { IsTarget to }
     ensures appended { OnOk result (Appends b.old b.new 1 1 0 (moves to (Num value))) }
     ensures cost { OnOk result (Costs b.old b.new 5 16) }
+    ensures rights { OnOk result (Rights b.old b.new []) }
 {
     move_template(alloc, b, to, Cell::Num(value))
 }
@@ -39,6 +41,7 @@ pub fn move_template(alloc: Global, b: &mut RingBuilder, to: Cell, from: Cell) -
     requires target { IsTarget to }
     ensures appended { OnOk result (Appends b.old b.new 1 1 0 (moves to from)) }
     ensures cost { OnOk result (Costs b.old b.new 5 16) }
+    ensures rights { OnOk result (Rights b.old b.new []) }
 {
     let segments = move_segments(alloc, to, from)?;
     b.push_segments(segments)
@@ -69,6 +72,7 @@ pub fn add_template(alloc: Global, b: &mut RingBuilder, to: Cell, by: Cell) -> R
     requires target { IsTarget to }
     ensures appended { OnOk result (Appends b.old b.new (add_count by) (add_count by) 0 (adds to by)) }
     ensures cost { OnOk result (Costs b.old b.new (5 * add_count by) (16 * add_count by)) }
+    ensures rights { OnOk result (Rights b.old b.new []) }
 {
     let segments = add_segments(alloc, b, to, by)?;
     b.push_segments(segments)
@@ -104,6 +108,7 @@ pub fn load_template(
     requires target { IsTarget to }
     ensures appended { OnOk result (Appends b.old b.new 2 2 0 (loads to table offset (slot_from b.old.ring (length (drafts_of b.old.segments)) 1))) }
     ensures cost { OnOk result (Costs b.old b.new 10 32) }
+    ensures rights { OnOk result (Rights b.old b.new []) }
 {
     let segments = load_segments(alloc, b, to, table, offset)?;
     b.push_segments(segments)
@@ -140,6 +145,7 @@ pub fn store_template(
     ensures appended { OnOk result (Appends b.old b.new 2 2 0 (stores table offset from
         (slot_from b.old.ring (length (drafts_of b.old.segments)) 1))) }
     ensures cost { OnOk result (Costs b.old b.new 10 32) }
+    ensures rights { OnOk result (Rights b.old b.new (table ∷ [])) }
 {
     let segments = store_segments(alloc, b, table, offset, from)?;
     b.push_segments(segments)
@@ -161,6 +167,7 @@ pub fn jump_template(alloc: Global, b: &mut RingBuilder, to: u32) -> Result<(), 
     requires few { length (drafts_of b.old.segments) < 2 ^ 31 }
     ensures appended { OnOk result (Appends b.old b.new 2 1 1 (jumps to (slot_from b.old.ring (length (drafts_of b.old.segments)) 1))) }
     ensures cost { OnOk result (Costs b.old b.new 9 28) }
+    ensures rights { OnOk result (Rights b.old b.new []) }
 {
     let segments = jump_segments(alloc, b, to)?;
     b.push_segments(segments)

@@ -1,7 +1,8 @@
-ghost use Rattle.std.specs.Prelude.{◌≡◌, ◌+◌, ◌*◌, ◌<◌, ◌≤◌, ◌^◌, length, OnOk, IfOk};
+ghost use Rattle.std.specs.Prelude.{◌≡◌, ◌+◌, ◌*◌, ◌<◌, ◌≤◌, ◌^◌, [], length, OnOk, IfOk};
 ghost use Rattle.redn_segment.specs.Building.{drafts_of};
 ghost use Rattle.redn_segment.specs.Effects.{replies};
 ghost use Rattle.redn_segment.specs.Costs.{Costs};
+ghost use Rattle.redn_segment.specs.Rights.{Rights};
 ghost use Rattle.redn_segment.specs.Templates.{Appends};
 ghost use Rattle.redn_move.specs.Replying.{copies_from, reply, send_words as spec_send_words};
 
@@ -58,6 +59,7 @@ pub fn reply_template(alloc: Global, b: &mut RingBuilder, words: &[Cell]) -> Res
     ensures appended { OnOk result
         (Appends b.old b.new 2 (length words.now + 1) 0 (replies words.now)) }
     ensures cost { OnOk result (Costs b.old b.new (length words.now + 5) (4 * length words.now + 16)) }
+    ensures rights { OnOk result (Rights b.old b.new []) }
 {
     let segments = reply_segments(alloc, words)?;
     b.push_segments(segments)

@@ -71,7 +71,7 @@ module _ (ring first : ℕ) where
       let same = among_moved q n (space_of a.site) in
       simp (space_renamed at, same) refl
 
-  all_moved : (test other : Draft → Bool) (ds : List Draft) → ((d : Draft) → test (renamed at d) ≡ other d) → list_all test (map (renamed at) ds) ≡ list_all other ds
+  pub all_moved : (test other : Draft → Bool) (ds : List Draft) → ((d : Draft) → test (renamed at d) ≡ other d) → list_all test (map (renamed at) ds) ≡ list_all other ds
   all_moved test other [] h = refl
   all_moved test other (d ∷ ds) h = λ i. h d i && all_moved test other ds h i
 

@@ -13,6 +13,8 @@ pub mod SameEffects
 pub mod ApartMoved
 pub mod Within
 pub mod Appending
+pub mod Suiting
+pub mod RightsInTurn
 pub mod Targets
 pub mod Composing
 pub mod Both

@@ -27,7 +27,7 @@ use Rattle.redn_segment.proofs.PutSides.{AllIn, puts_in}
 use Rattle.redn_segment.proofs.SlotBytes.{opcode_by, Stays, all_stay, space_stays, spares_space, write_puts, cas_puts, noop_puts, cleared_opcode, swapped_opcode}
 use Rattle.redn_segment.proofs.Composing.{behind_next, behind_none, placed_append}
 
-abbrev is_noop : Opcode → Bool
+abbrev pub is_noop : Opcode → Bool
 is_noop Noop = true
 is_noop _ = false
 
@@ -39,7 +39,7 @@ abbrev is_cas : Opcode → Bool
 is_cas Cas = true
 is_cas _ = false
 
-noop_is : (op : Opcode) → is_noop op ≡ true → op ≡ Noop
+pub noop_is : (op : Opcode) → is_noop op ≡ true → op ≡ Noop
 noop_is Noop h = refl
 noop_is _ h = absurd (false≢true h)
 

@@ -24,7 +24,7 @@ module _ (ring first : ℕ) where
   abbrev at : SlotRef → SlotRef
   at = moved ring first
 
-  turns_moved : (q : SlotRef) (e : Draft) → turns (at q) (renamed at e) ≡ turns q e
+  pub turns_moved : (q : SlotRef) (e : Draft) → turns (at q) (renamed at e) ≡ turns q e
   turns_moved q e =
       let same : same_space (remote_space (renamed at e)) (space.Slot (at q)) ≡ same_space (remote_space e) (space.Slot q) = ap (λ (p : Space). same_space p (space.Slot (at q))) (space_renamed at e.remote) ∙ same_renamed at (keeps ring first) (remote_space e) (space.Slot q) in
       let start = start_renamed at e.remote in

@@ -1,29 +1,35 @@
--- Footprints, landings in two orders, opcodes, names and costs, computed on small examples.
-use Rattle.std.proofs.Common.{◌≡◌, ℕ, ◌*◌, true, false, List, [], ◌∷◌, ◌++◌, map, inl, inr, refl}
-use Rattle.std.specs.List.{sum_by}
+-- Footprints, landings in two orders, opcodes, rights, names and costs, computed on small examples.
+use Rattle.std.proofs.Common.{◌≡◌, ℕ, ◌*◌, ◌≤◌, true, false, List, [], ◌∷◌, ◌++◌, map, inl, inr, refl, sym, arith}
+use Rattle.std.proofs.lemmas.Bool.{false≢true}
+use Rattle.std.specs.List.{sum_by, count_by}
 use Rattle.redn_words.specs.declared.types.Region.{Region}
 use Rattle.redn_words.specs.declared.types.Kind.TheVariants.{Code, Control}
-use Rattle.redn_words.specs.declared.types.Opcode.TheVariants.{Noop, Write, Cas, Send}
+use Rattle.redn_words.specs.declared.types.Kind.TheVariants as kind
+use Rattle.redn_words.specs.declared.types.Need.{Need}
+use Rattle.redn_words.specs.declared.types.Need.TheVariants.{Any, LocalWrite, RemoteRead, RemoteWrite, Atomic}
+use Rattle.redn_words.specs.declared.types.Opcode.TheVariants.{Noop, Write, Read, Cas, Send}
 use Rattle.redn_words.specs.Words.{number, spelled, bytes_at}
 use Rattle.redn_words.specs.Requests.{decoded, encoded, opcode_named}
-use Rattle.redn_words.specs.Access.{access}
+use Rattle.redn_words.specs.Access.{grants, access}
 use Rattle.redn_words.specs.Landings.{lands}
-use Rattle.redn_kernel.specs.declared.types.Cell.TheVariants.{Var}
+use Rattle.redn_kernel.specs.declared.types.Cell.TheVariants.{Var, Argument}
 use Rattle.redn_segment.specs.declared.types.SlotRef.{SlotRef}
 use Rattle.redn_segment.specs.declared.types.Space.{Space}
 use Rattle.redn_segment.specs.declared.types.Space.TheVariants as space
 use Rattle.redn_segment.specs.declared.types.Site.{Site}
 use Rattle.redn_segment.specs.declared.types.Site.TheVariants as site
 use Rattle.redn_segment.specs.declared.types.Draft.{Draft}
-use Rattle.redn_segment.specs.Drafts.{slot_from, field, draft, copy, read_table, swap_in, turnable, clear, fill_low, choose, write_word, cas_word}
+use Rattle.redn_segment.specs.Drafts.{slot_from, field, draft, copy, read_table, swap_in, turnable, clear, fill_low, choose, write_word, read_word, cas_word}
 use Rattle.redn_segment.specs.Plain.{put, Went}
 use Rattle.redn_segment.specs.Footprints.{is_apart, segments_apart}
 use Rattle.redn_segment.specs.Renaming.{renamed, renamed_outcome, moved}
 use Rattle.redn_segment.specs.Templates.{one_event, is_filled}
 use Rattle.redn_segment.specs.Costs.{segment_slots, segment_actions}
 use Rattle.redn_segment.specs.Opcodes.{word_opcode, turns, MayHave}
+use Rattle.redn_segment.specs.Rights.{allows, Suits}
 use Rattle.redn_segment.specs.Homes.{Home}
 use Rattle.redn_segment.specs.Orders.{landed}
+use Rattle.redn_segment.proofs.Suiting.{suiting}
 
 abbrev own : ℕ → SlotRef
 own k = slot_from 0 0 k
@@ -149,6 +155,100 @@ may_rest = inl refl
 
 turns_no_other : map (turns (own 1)) low_test ≡ false ∷ false ∷ false ∷ []
 turns_no_other = refl
+
+-- one CAS turns slot 2, and none slot 1
+turned_by_one : count_by (turns (own 2)) low_test ≡ 1
+turned_by_one = refl
+
+turned_by_none : count_by (turns (own 1)) low_test ≡ 0
+turned_by_none = refl
+
+abbrev two_swaps : List Draft
+two_swaps =
+    swap_in 0 (field (own 2) 0 8) write_word ∷ swap_in 1 (field (own 2) 0 8) write_word ∷ turnable (site.Descriptor 3) (field (own 3) 40 16) 16 0 ∷ []
+
+turned_by_two : count_by (turns (own 2)) two_swaps ≡ 2
+turned_by_two = refl
+
+-- what each kind allows is what rights of 13 (words), 12 (slots), 0 (messages), 2 (a table) and 6 (a written table) grant
+abbrev needs : List Need
+needs = Any ∷ LocalWrite ∷ RemoteRead ∷ RemoteWrite ∷ Atomic ∷ []
+
+words_allow : map (allows [] kind.Vars) needs ≡ true ∷ true ∷ false ∷ true ∷ true ∷ []
+words_allow = refl
+
+words_grant : map (allows [] kind.Vars) needs ≡ map (grants 13) needs
+words_grant = refl
+
+control_grants : map (allows [] Control) needs ≡ map (grants 13) needs
+control_grants = refl
+
+slots_grant : map (allows [] Code) needs ≡ map (grants 12) needs
+slots_grant = refl
+
+messages_grant : map (allows (3 ∷ []) kind.Message) needs ≡ map (grants 0) needs
+messages_grant = refl
+
+table_grants : map (allows (4 ∷ []) (kind.Table 3)) needs ≡ map (grants 2) needs
+table_grants = refl
+
+written_grants : map (allows (4 ∷ 3 ∷ []) (kind.Table 3)) needs ≡ map (grants 6) needs
+written_grants = refl
+
+-- a test's target may become a WRITE; as a READ it would change the descriptor, and a NOOP without a word can't be turned
+abbrev target : ℕ → Draft
+target len = turnable (site.Descriptor 3) (field (own 3) 40 16) len 0
+
+may_copy : Suits [] (target 16) Write
+may_copy =
+    record { local = refl; remote = λ h. refl; local_descriptor = λ h. refl; remote_descriptor = λ h. refl; silent = λ h. refl; follows = inr (refl, let e : 8 ≤ 16 = omega arith in e) }
+
+may_not_read : Suits [] (target 16) Read → ⊥
+may_not_read x = let e : LocalWrite ≡ Any = x.local_descriptor refl in cc
+
+short_target : suiting [] (own 0) (swap_in 0 (field (own 1) 0 8) write_word ∷ target 4 ∷ []) ≡ false
+unfolding number spelled opcode_named
+short_target = refl
+
+-- a table is written where it is named, and an argument or a descriptor nowhere
+abbrev store_word : Site → Draft
+store_word to = copy (var 0) 0 to 8
+
+stores_there : Suits (3 ∷ []) (store_word (site.Table 3 0)) Write
+stores_there =
+    record { local = refl; remote = λ h. refl; local_descriptor = λ h. absurd (false≢true h); remote_descriptor = λ h. refl; silent = λ h. h; follows = inl refl }
+
+stores_nowhere : Suits (4 ∷ []) (store_word (site.Table 3 0)) Write → ⊥
+stores_nowhere x = false≢true (x.remote refl)
+
+keeps_arguments : Suits [] (store_word (site.Cell (Argument 0))) Write → ⊥
+keeps_arguments x = false≢true (x.remote refl)
+
+keeps_descriptors : Suits [] (store_word (site.Descriptor 3)) Write → ⊥
+keeps_descriptors x = false≢true (sym (x.remote_descriptor refl))
+
+reads_no_word : Suits [] (draft Read (var 0) 0 (var 1) 8 0 0) Read → ⊥
+reads_no_word x = false≢true (x.remote refl)
+
+-- a hidden READ of a word may not turn up where a draft shows nothing
+shows_late : Suits [] (turnable (var 0) site.Key 8 0) Read → ⊥
+shows_late x = false≢true (sym (x.silent refl))
+
+all_of_a_test : suiting [] (own 0) low_test ≡ true
+unfolding number spelled opcode_named
+all_of_a_test = refl
+
+two_are_too_many : suiting [] (own 0) two_swaps ≡ false
+unfolding number spelled opcode_named
+two_are_too_many = refl
+
+becomes_a_read : suiting [] (own 0) (swap_in 0 (field (own 1) 0 8) read_word ∷ target 16 ∷ []) ≡ false
+unfolding number spelled opcode_named
+becomes_a_read = refl
+
+turns_another : suiting [] (own 0) (swap_in 0 (field (own 1) 0 8) write_word ∷ []) ≡ false
+unfolding number spelled opcode_named
+turns_another = refl
 
 -- slots by other numbers
 renamed_fill : renamed (moved 4 10) (fill_low (var 0) (own 2)) ≡ fill_low (var 0) (slot_from 4 10 2)

@@ -1,5 +1,5 @@
 -- Laws of plain runs and of what templates promise.
-use Rattle.std.specs.Prelude.{◌≡◌, ℕ, ◌+◌, List, map}
+use Rattle.std.specs.Prelude.{◌≡◌, ℕ, ◌+◌, List, ◌++◌, map}
 use Rattle.redn_segment.specs.declared.types.SlotRef.{SlotRef}
 use Rattle.redn_segment.specs.declared.types.Draft.{Draft}
 use Rattle.redn_segment.specs.Sites.{same_slot, next_slot}
@@ -7,6 +7,7 @@ use Rattle.redn_segment.specs.Building.{Building}
 use Rattle.redn_segment.specs.Plain.{Bytes, View, runs}
 use Rattle.redn_segment.specs.Effects.{Effect}
 use Rattle.redn_segment.specs.Costs.{Costs}
+use Rattle.redn_segment.specs.Rights.{Rights}
 use Rattle.redn_segment.specs.Parts.{in_turn}
 use Rattle.redn_segment.specs.Renaming.{renamed, renamed_outcome, pulled, pulled_view}
 use Rattle.redn_segment.specs.Templates.{Appends}
@@ -20,6 +21,16 @@ TemplatesInTurn =
 abbrev pub CostsInTurn : Type 0
 CostsInTurn =
     (a b c : Building) (slots more_slots actions more_actions : ℕ) → Costs a b slots actions → Costs b c more_slots more_actions → Costs a c (slots + more_slots) (actions + more_actions)
+
+-- what is asked of the regions is what both ask
+abbrev pub RightsInTurn : Type 0
+RightsInTurn =
+    (a b c : Building) (written others : List ℕ) → Rights a b written → Rights b c others → Rights a c (written ++ others)
+
+-- the drafts of which opcodes are told are those that suit them
+abbrev pub AddedOnce : Type 0
+AddedOnce =
+    (a b : Building) (segments drafts more : ℕ) (effect : View → Bytes → Effect) (written : List ℕ) (appends : Appends a b segments drafts more effect) (rights : Rights a b written) → appends.added ≡ rights.added
 
 -- other numbers of slots, of which no two are one, and which keep neighbours
 pub record Renumbers (f : SlotRef → SlotRef) : Type 0 where

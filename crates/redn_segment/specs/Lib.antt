@@ -9,6 +9,7 @@ pub mod Parts
 pub mod Footprints
 pub mod Opcodes
 pub mod Templates
+pub mod Rights
 pub mod Laws
 pub mod Costs
 pub mod Homes

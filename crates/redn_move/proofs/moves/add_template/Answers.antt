@@ -1,4 +1,4 @@
-use Rattle.std.proofs.Common.{ℕ, List, length, ap, ◌∙◌, arith}
+use Rattle.std.proofs.Common.{ℕ, List, [], length, ap, ◌∙◌, arith}
 use Rattle.std.proofs.lemmas.Result.{on_ok_weaker}
 use Rattle.redn_segment.specs.declared.types.SlotRef.{SlotRef}
 use Rattle.redn_segment.specs.declared.types.Draft.{Draft}
@@ -7,9 +7,10 @@ use Rattle.redn_segment.specs.Drafts.{slot_from}
 use Rattle.redn_segment.specs.Effects.{adds, first_slot}
 use Rattle.redn_segment.specs.Footprints.{segments_apart}
 use Rattle.redn_segment.proofs.Appending.{appends, stands_apart}
+use Rattle.redn_segment.proofs.Suiting.{template_rights}
 use Rattle.redn_segment.proofs.Growing.{with_more}
 use Rattle.redn_move.specs.Adding.{add_segments, add_count}
-use Rattle.redn_move.proofs.Moving.{add_is, few_added, add_slots, add_actions}
+use Rattle.redn_move.proofs.Moving.{add_suits, add_is, few_added, add_slots, add_actions}
 use Rattle.redn_move.proofs.moves.add_template.Goals as goal
 
 pub push_segments-requires : goal.push_segments-requires
@@ -37,3 +38,9 @@ returns-clause-cost c =
       slots_are = add_slots slot a.to a.by;
       actions_are = add_actions slot a.to a.by;
     }) c.push_segments.ensures
+
+pub returns-clause-rights : goal.returns-clause-rights
+returns-clause-rights c =
+    let a = c.args in
+    let rights = template_rights (λ (slot : ℕ → SlotRef). add_segments slot a.to a.by) (λ (slot : ℕ → SlotRef). adds a.to a.by) (add_count a.by) (add_count a.by) 0 (add_is a.to a.by c.requires.target) [] (add_suits a.to a.by c.requires.target) a.b.now c.push_segments.new.self in
+    on_ok_weaker c.push_segments.result (λ e. rights (e ∙ ap (with_more a.b.now) c.in_ok-segments.ensures)) c.push_segments.ensures

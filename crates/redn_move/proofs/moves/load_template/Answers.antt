@@ -1,4 +1,4 @@
-use Rattle.std.proofs.Common.{ℕ, List, length, refl, ap, ◌∙◌, arith}
+use Rattle.std.proofs.Common.{ℕ, List, [], length, refl, ap, ◌∙◌, arith}
 use Rattle.std.proofs.lemmas.Result.{on_ok_weaker}
 use Rattle.redn_segment.specs.declared.types.SlotRef.{SlotRef}
 use Rattle.redn_segment.specs.declared.types.Draft.{Draft}
@@ -7,9 +7,10 @@ use Rattle.redn_segment.specs.Drafts.{slot_from}
 use Rattle.redn_segment.specs.Effects.{loads, first_slot}
 use Rattle.redn_segment.specs.Footprints.{segments_apart}
 use Rattle.redn_segment.proofs.Appending.{appends, stands_apart}
+use Rattle.redn_segment.proofs.Suiting.{template_rights}
 use Rattle.redn_segment.proofs.Growing.{with_more}
 use Rattle.redn_move.specs.Moves.{load}
-use Rattle.redn_move.proofs.Moving.{load_is}
+use Rattle.redn_move.proofs.Moving.{load_suits, load_is}
 use Rattle.redn_move.proofs.moves.load_template.Goals as goal
 
 pub push_segments-requires : goal.push_segments-requires
@@ -37,3 +38,9 @@ returns-clause-cost c =
       slots_are = refl;
       actions_are = refl;
     }) c.push_segments.ensures
+
+pub returns-clause-rights : goal.returns-clause-rights
+returns-clause-rights c =
+    let a = c.args in
+    let rights = template_rights (λ (slot : ℕ → SlotRef). load slot a.to a.table a.offset) (λ (slot : ℕ → SlotRef). loads a.to a.table a.offset (slot 1)) 2 2 0 (load_is a.to a.table a.offset c.requires.target) [] (load_suits a.to a.table a.offset c.requires.target) a.b.now c.push_segments.new.self in
+    on_ok_weaker c.push_segments.result (λ e. rights (e ∙ ap (with_more a.b.now) c.in_ok-segments.ensures)) c.push_segments.ensures

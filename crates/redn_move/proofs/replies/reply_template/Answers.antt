@@ -5,7 +5,7 @@ use Rattle.redn_segment.specs.Building.{drafts_of}
 use Rattle.redn_segment.specs.Effects.{first_slot}
 use Rattle.redn_segment.specs.Footprints.{segments_apart}
 use Rattle.redn_segment.proofs.Growing.{with_more}
-use Rattle.redn_move.proofs.Appended.{appends_reply, apart_reply, count, reply_costs}
+use Rattle.redn_move.proofs.Appended.{appends_reply, apart_reply, count, reply_costs, reply_rights}
 use Rattle.redn_move.proofs.replies.reply_template.Goals as goal
 
 pub push_segments-requires : goal.push_segments-requires
@@ -23,3 +23,7 @@ returns-clause-appended c =
 pub returns-clause-cost : goal.returns-clause-cost
 returns-clause-cost c =
     on_ok_weaker c.push_segments.result (λ e. reply_costs c.args.words.now c.requires.some_word c.requires.few_words c.args.b.now c.push_segments.new.self (e ∙ ap (with_more c.args.b.now) c.in_ok-segments.ensures)) c.push_segments.ensures
+
+pub returns-clause-rights : goal.returns-clause-rights
+returns-clause-rights c =
+    on_ok_weaker c.push_segments.result (λ e. reply_rights c.args.words.now c.args.b.now c.push_segments.new.self (e ∙ ap (with_more c.args.b.now) c.in_ok-segments.ensures)) c.push_segments.ensures

@@ -1,28 +1,25 @@
-use Rattle.std.proofs.Common.{ℕ, drop, ◌≤◌, ◌+◌, List, [], ◌∷◌, length, length-append, map, sym, ap, ◌∙◌, subst, arith}
+use Rattle.std.proofs.Common.{ℕ, drop, ◌≤◌, List, [], ◌∷◌, length, length-append, map, sym, ap, ◌∙◌, subst, arith}
 use Rattle.redn_kernel.specs.declared.types.Kernel.{Kernel}
 use Rattle.redn_kernel.specs.declared.types.Kernel.TheVariants as k
 use Rattle.redn_kernel.specs.Program.{weight_of, weight_of_all}
-use Rattle.redn_kernel.proofs.Cases.{weight_of_if, weight_of_loop, weight_of_repeat, weight_of_lookup, weight_of_walk}
-use Rattle.redn_graph.specs.declared.types.Instr.TheVariants as instr
+use Rattle.redn_kernel.proofs.Cases.{weight_of_if, weight_of_loop, weight_of_repeat}
 use Rattle.redn_graph.specs.declared.types.End.TheVariants as end
-use Rattle.redn_kernel.specs.declared.types.Cell.TheVariants as cell
 use Rattle.redn_graph.specs.declared.build.Tail.TheVariants.{To}
 use Rattle.redn_kernel.specs.CoreRun.{cell_of}
 use Rattle.redn_graph.specs.Words.{test_end}
 use Rattle.redn_graph.specs.Code.{Compiles}
-use Rattle.redn_graph.proofs.Doing.{add_runs, load_runs, store_runs}
 use Rattle.redn_graph.proofs.Ends.{reply_runs}
 use Rattle.redn_graph.proofs.Building.{compiles_break, compiles_endless}
 use Rattle.redn_graph.proofs.Counting.{compiles_counted, compiles_never}
-use Rattle.redn_graph.proofs.Statements.{ok_still, move_of_runs, compiles_as, compiles_alone, compiles_test, grown_still, search_grown, weight_positive, met_sound, unmet_sound, loop_sound, repeat_sound, probes_few, nodes_some}
+use Rattle.redn_graph.proofs.Statements.{ok_still, compiles_as, compiles_alone, compiles_test, grown_still, weight_positive, met_sound, unmet_sound, loop_sound, repeat_sound}
 use Rattle.redn_graph.specs.Slots.{end_slots}
 use Rattle.redn_graph.proofs.Slots.{to_slots, open_slots, test_slots}
 use Rattle.std.proofs.Common.{◌<◌, refl}
 use Rattle.std.proofs.lemmas.List.Elements.{All-nil}
 use Rattle.redn_graph.specs.declared.types.Block.{Block}
 use Rattle.redn_graph.specs.Words.{counts, counted}
-use Rattle.redn_graph.specs.Fits.{IsCell, FitsInstr, FitsCode, Fitted, AllWell}
-use Rattle.redn_graph.proofs.Fits.{fitted_none, fitted_then, fitted_bound, within_before, open_fits, alone_fits, test_fits, move_fits, add_fits, load_fits, store_fits, if_fits, loop_fits, repeat_fits, lookup_fits, walk_fits, reply_fits}
+use Rattle.redn_graph.specs.Fits.{FitsInstr, FitsCode, Fitted, AllWell}
+use Rattle.redn_graph.proofs.Fits.{fitted_none, fitted_then, fitted_bound, within_before, open_fits, alone_fits, test_fits, if_fits, loop_fits, repeat_fits, reply_fits}
 use Rattle.redn_graph.proofs.Slots.{to_size, open_size, sized_as}
 use Rattle.std.proofs.Common.{◌≡◌}
 use Rattle.std.proofs.Math.Seq.{drop-length}
@@ -102,33 +99,6 @@ statement-counted-requires t c =
     let inner = ap weight_of_all c.as_slice-in-Repeat.ensures in
     (omega arith, (record { searches = omega arith; cells = omega arith; blocks = omega arith }, repeat_sound _ _ _ _ c.in-Repeat.is c.as_slice-in-Repeat.ensures c.requires.sound))
 
-pub statement-returns-in-Move-clause-compiles : goal.statement-returns-in-Move-clause-compiles
-statement-returns-in-Move-clause-compiles t c =
-    let a = c.args in
-    let i = c.in-Move in
-    compiles_as a.self.now.blocks a.self.now.hidden a.exit a.statement.now _ _ _ a.tail c.before-in-Move.result i.is c.move_instr.ensures (move_of_runs i.to i.from) c.before-in-Move.ensures.code
-
-pub statement-returns-in-Add-clause-compiles : goal.statement-returns-in-Add-clause-compiles
-statement-returns-in-Add-clause-compiles t c =
-    let a = c.args in
-    let i = c.in-Add in
-    let made = ap (instr.Add (cell.Var i.to)) c.cell_for-by.ensures in
-    compiles_as a.self.now.blocks a.self.now.hidden a.exit a.statement.now _ _ _ a.tail c.before-in-Add.result i.is made (λ m. add_runs m i.to i.by) c.before-in-Add.ensures.code
-
-pub statement-returns-in-Load-clause-compiles : goal.statement-returns-in-Load-clause-compiles
-statement-returns-in-Load-clause-compiles t c =
-    let a = c.args in
-    let i = c.in-Load in
-    let made = ap (instr.Load (cell.Var i.to) i.table) c.cell_for-offset.ensures in
-    compiles_as a.self.now.blocks a.self.now.hidden a.exit a.statement.now _ _ _ a.tail c.before-in-Load.result i.is made (λ m. load_runs m i.to i.table i.offset) c.before-in-Load.ensures.code
-
-pub statement-returns-in-Store-clause-compiles : goal.statement-returns-in-Store-clause-compiles
-statement-returns-in-Store-clause-compiles t c =
-    let a = c.args in
-    let i = c.in-Store in
-    let made = ap (λ x. instr.Store i.table x c.cell_for-from.result) c.cell_for-offset-in-Store.ensures ∙ ap (λ x. instr.Store i.table (cell_of i.offset) x) c.cell_for-from.ensures in
-    compiles_as a.self.now.blocks a.self.now.hidden a.exit a.statement.now _ _ _ a.tail c.before-in-Store.result i.is made (λ m. store_runs m i.table i.offset i.from) c.before-in-Store.ensures.code
-
 pub statement-returns-in-If-clause-grown : goal.statement-returns-in-If-clause-grown
 statement-returns-in-If-clause-grown t c =
     let whole = ap weight_of c.in-If.is ∙ weight_of_if _ _ _ _ _ in
@@ -176,43 +146,6 @@ statement-returns-in_ok-words-in-Reply-clause-compiles t c =
     let a = c.args in
     let made = ap end.Reply (c.in_ok-words-in-Reply.ensures ∙ ap (map cell_of) c.as_slice-in-Reply.ensures) in
     compiles_alone a.self.now.blocks a.self.now.hidden a.exit a.statement.now _ _ _ a.tail c.open.result c.in-Reply.is made (λ all m. reply_runs all c.in-Reply.words m) c.open.ensures
-
-pub statement-lookup-requires : goal.statement-lookup-requires
-statement-lookup-requires t c =
-    let i = c.in-Lookup in
-    let few = probes_few c.args.statement.now i.to i.table i.offset i.key i.probes i.is c.requires.sound in
-    record { room = omega arith; some = few.0 }
-
-pub statement-walk-requires : goal.statement-walk-requires
-statement-walk-requires t c =
-    let i = c.in-Walk in
-    record { room = omega arith; some = nodes_some c.args.statement.now i.to i.table i.offset i.key i.nodes i.is c.requires.sound }
-
-pub statement-returns-in-Lookup-clause-compiles : goal.statement-returns-in-Lookup-clause-compiles
-statement-returns-in-Lookup-clause-compiles t c =
-    let a = c.args in
-    ok_still c.lookup.result _ _
-    (λ after compiles. subst (λ (st : Kernel). Compiles a.self.now.blocks c.lookup.new.self.blocks a.self.now.hidden a.exit (st ∷ []) a.tail after) (sym c.in-Lookup.is) (compiles a.self.now.hidden a.exit))
-    c.lookup.ensures.compiles
-
-pub statement-returns-in-Walk-clause-compiles : goal.statement-returns-in-Walk-clause-compiles
-statement-returns-in-Walk-clause-compiles t c =
-    let a = c.args in
-    ok_still c.walk.result _ _
-    (λ after compiles. subst (λ (st : Kernel). Compiles a.self.now.blocks c.walk.new.self.blocks a.self.now.hidden a.exit (st ∷ []) a.tail after) (sym c.in-Walk.is) (compiles a.self.now.hidden a.exit))
-    c.walk.ensures.compiles
-
-pub statement-returns-in-Lookup-clause-grown : goal.statement-returns-in-Lookup-clause-grown
-statement-returns-in-Lookup-clause-grown t c =
-    let i = c.in-Lookup in
-    let few = probes_few c.args.statement.now i.to i.table i.offset i.key i.probes i.is c.requires.sound in
-    let whole = ap weight_of i.is ∙ weight_of_lookup _ _ _ _ _ in
-    search_grown c.lookup.result c.args.self.now c.lookup.new.self (i.probes + 1) (weight_of c.args.statement.now) c.lookup.ensures.hidden (omega arith) c.lookup.ensures.more c.lookup.ensures.blocks
-
-pub statement-returns-in-Walk-clause-grown : goal.statement-returns-in-Walk-clause-grown
-statement-returns-in-Walk-clause-grown t c =
-    let whole = ap weight_of c.in-Walk.is ∙ weight_of_walk _ _ _ _ _ in
-    search_grown c.walk.result c.args.self.now c.walk.new.self 4 (weight_of c.args.statement.now) c.walk.ensures.hidden (omega arith) c.walk.ensures.more c.walk.ensures.blocks
 
 pub statement-returns-in-Break-clause-slots : goal.statement-returns-in-Break-clause-slots
 statement-returns-in-Break-clause-slots t c = omega (arith, to_slots c.args.exit)
@@ -269,68 +202,6 @@ statement-returns-in-Repeat-clause-slots t c =
     let inner = ap weight_of_all c.as_slice-in-Repeat.ensures in
     ok_still c.counted.result _ _ (λ after few. omega (arith, few, whole, inner)) c.counted.ensures.slots
 
-pub statement-returns-in-Lookup-clause-slots : goal.statement-returns-in-Lookup-clause-slots
-statement-returns-in-Lookup-clause-slots t c =
-    let i = c.in-Lookup in
-    let sized = probes_few c.args.statement.now i.to i.table i.offset i.key i.probes i.is c.requires.sound in
-    let whole = ap weight_of i.is ∙ weight_of_lookup _ _ _ _ _ in
-    ok_still c.lookup.result _ _ (λ after few. omega (arith, few, whole, sized)) c.lookup.ensures.slots
-
-pub statement-returns-in-Walk-clause-slots : goal.statement-returns-in-Walk-clause-slots
-statement-returns-in-Walk-clause-slots t c =
-    let whole = ap weight_of c.in-Walk.is ∙ weight_of_walk _ _ _ _ _ in
-    ok_still c.walk.result _ _ (λ after few. omega (arith, few, whole)) c.walk.ensures.slots
-
-pub statement-returns-in-Move-clause-slots : goal.statement-returns-in-Move-clause-slots
-statement-returns-in-Move-clause-slots t c =
-    ok_still c.before-in-Move.result _ _ (λ after few. omega (arith, few, weight_positive c.args.statement.now)) c.before-in-Move.ensures.slots
-
-pub statement-returns-in-Add-clause-slots : goal.statement-returns-in-Add-clause-slots
-statement-returns-in-Add-clause-slots t c =
-    ok_still c.before-in-Add.result _ _ (λ after few. omega (arith, few, weight_positive c.args.statement.now)) c.before-in-Add.ensures.slots
-
-pub statement-returns-in-Load-clause-slots : goal.statement-returns-in-Load-clause-slots
-statement-returns-in-Load-clause-slots t c =
-    ok_still c.before-in-Load.result _ _ (λ after few. omega (arith, few, weight_positive c.args.statement.now)) c.before-in-Load.ensures.slots
-
-pub statement-returns-in-Store-clause-slots : goal.statement-returns-in-Store-clause-slots
-statement-returns-in-Store-clause-slots t c =
-    ok_still c.before-in-Store.result _ _ (λ after few. omega (arith, few, weight_positive c.args.statement.now)) c.before-in-Store.ensures.slots
-
-pub statement-returns-in-Move-clause-fits : goal.statement-returns-in-Move-clause-fits
-statement-returns-in-Move-clause-fits t c =
-    let i = c.in-Move in
-    ok_still c.before-in-Move.result _ _
-    (λ after fits n within exit well tail. (fitted_none n c.args.self.now.blocks, fits n (subst (FitsInstr n) (sym c.move_instr.ensures) (move_fits n c.args.statement.now i.to i.from i.is well)) tail))
-    c.before-in-Move.ensures.fits
-
-pub statement-returns-in-Add-clause-fits : goal.statement-returns-in-Add-clause-fits
-statement-returns-in-Add-clause-fits t c =
-    let i = c.in-Add in
-    ok_still c.before-in-Add.result _ _
-    (λ after fits n within exit well tail.
-    let h = add_fits n c.args.statement.now i.to i.by i.is well in
-    (fitted_none n c.args.self.now.blocks, fits n (h.0, subst (IsCell n) (sym c.cell_for-by.ensures) h.1) tail))
-    c.before-in-Add.ensures.fits
-
-pub statement-returns-in-Load-clause-fits : goal.statement-returns-in-Load-clause-fits
-statement-returns-in-Load-clause-fits t c =
-    let i = c.in-Load in
-    ok_still c.before-in-Load.result _ _
-    (λ after fits n within exit well tail.
-    let h = load_fits n c.args.statement.now i.to i.table i.offset i.is well in
-    (fitted_none n c.args.self.now.blocks, fits n (h.0, h.1, subst (IsCell n) (sym c.cell_for-offset.ensures) h.2) tail))
-    c.before-in-Load.ensures.fits
-
-pub statement-returns-in-Store-clause-fits : goal.statement-returns-in-Store-clause-fits
-statement-returns-in-Store-clause-fits t c =
-    let i = c.in-Store in
-    ok_still c.before-in-Store.result _ _
-    (λ after fits n within exit well tail.
-    let h = store_fits n c.args.statement.now i.table i.offset i.from i.is well in
-    (fitted_none n c.args.self.now.blocks, fits n (h.0, subst (IsCell n) (sym c.cell_for-offset-in-Store.ensures) h.1, subst (IsCell n) (sym c.cell_for-from.ensures) h.2) tail))
-    c.before-in-Store.ensures.fits
-
 pub statement-returns-in-If-clause-fits : goal.statement-returns-in-If-clause-fits
 statement-returns-in-If-clause-fits t c =
     let i = c.in-If in
@@ -353,24 +224,6 @@ statement-returns-in-Repeat-clause-fits t c =
     ok_still c.counted.result _ _
     (λ after fits n within exit well tail. fits n within (subst (AllWell n) (sym c.as_slice-in-Repeat.ensures) (repeat_fits n c.args.statement.now i.count i.body i.is well)) tail)
     c.counted.ensures.fits
-
-pub statement-returns-in-Lookup-clause-fits : goal.statement-returns-in-Lookup-clause-fits
-statement-returns-in-Lookup-clause-fits t c =
-    let i = c.in-Lookup in
-    ok_still c.lookup.result _ _
-    (λ after fits n within exit well tail.
-    let h = lookup_fits n c.args.statement.now i.to i.table i.offset i.key i.probes i.is well in
-    fits n within (h.0, h.1, h.3) h.2 tail)
-    c.lookup.ensures.fits
-
-pub statement-returns-in-Walk-clause-fits : goal.statement-returns-in-Walk-clause-fits
-statement-returns-in-Walk-clause-fits t c =
-    let i = c.in-Walk in
-    ok_still c.walk.result _ _
-    (λ after fits n within exit well tail.
-    let h = walk_fits n c.args.statement.now i.to i.table i.offset i.key i.nodes i.is well in
-    fits n within (h.0, h.1, h.3) h.2 tail)
-    c.walk.ensures.fits
 
 pub statement-returns-in_ok-words-in-Reply-clause-fits : goal.statement-returns-in_ok-words-in-Reply-clause-fits
 statement-returns-in_ok-words-in-Reply-clause-fits t c n within exit well tail =
@@ -460,18 +313,6 @@ statement-returns-in-Repeat-clause-size t c =
     let inner = ap weight_of_all c.as_slice-in-Repeat.ensures in
     ok_still c.counted.result _ _ (sized_as _ _ _ _ _ (omega (arith, whole, inner))) c.counted.ensures.size
 
-pub statement-returns-in-Lookup-clause-size : goal.statement-returns-in-Lookup-clause-size
-statement-returns-in-Lookup-clause-size t c =
-    let i = c.in-Lookup in
-    let sized = probes_few c.args.statement.now i.to i.table i.offset i.key i.probes i.is c.requires.sound in
-    let whole = ap weight_of i.is ∙ weight_of_lookup _ _ _ _ _ in
-    ok_still c.lookup.result _ _ (sized_as c.args.self.now.blocks c.lookup.new.self.blocks c.args.tail 2 (weight_of c.args.statement.now) (omega (arith, whole, sized))) c.lookup.ensures.size
-
-pub statement-returns-in-Walk-clause-size : goal.statement-returns-in-Walk-clause-size
-statement-returns-in-Walk-clause-size t c =
-    let whole = ap weight_of c.in-Walk.is ∙ weight_of_walk _ _ _ _ _ in
-    ok_still c.walk.result _ _ (sized_as c.args.self.now.blocks c.walk.new.self.blocks c.args.tail 5 (weight_of c.args.statement.now) (omega (arith, whole))) c.walk.ensures.size
-
 pub statement-returns-in-Break-clause-size : goal.statement-returns-in-Break-clause-size
 statement-returns-in-Break-clause-size t c size most some fits room small = (small, omega (arith, some, to_size c.args.exit))
 
@@ -514,22 +355,6 @@ counted-returns-clause-size t c =
     (s4, omega (arith, some, more, to)))
     c.before-2.ensures.size
 
-pub statement-returns-in-Move-clause-size : goal.statement-returns-in-Move-clause-size
-statement-returns-in-Move-clause-size t c =
-    ok_still c.before-in-Move.result _ _ (λ after more size most some fits room small. (small, omega (arith, more, fits, weight_positive c.args.statement.now))) c.before-in-Move.ensures.size
-
-pub statement-returns-in-Add-clause-size : goal.statement-returns-in-Add-clause-size
-statement-returns-in-Add-clause-size t c =
-    ok_still c.before-in-Add.result _ _ (λ after more size most some fits room small. (small, omega (arith, more, fits, weight_positive c.args.statement.now))) c.before-in-Add.ensures.size
-
-pub statement-returns-in-Load-clause-size : goal.statement-returns-in-Load-clause-size
-statement-returns-in-Load-clause-size t c =
-    ok_still c.before-in-Load.result _ _ (λ after more size most some fits room small. (small, omega (arith, more, fits, weight_positive c.args.statement.now))) c.before-in-Load.ensures.size
-
-pub statement-returns-in-Store-clause-size : goal.statement-returns-in-Store-clause-size
-statement-returns-in-Store-clause-size t c =
-    ok_still c.before-in-Store.result _ _ (λ after more size most some fits room small. (small, omega (arith, more, fits, weight_positive c.args.statement.now))) c.before-in-Store.ensures.size
-
 pub list-statement-requires : goal.list-statement-requires
 list-statement-requires t c =
     let body = c.args.body.now in
@@ -561,3 +386,25 @@ list-returns-clause-size t c =
     let loop = c.loop-i in
     let first : loop.i ≡ 0 = omega (arith, c.loop-i-test.false) in
     subst (λ (i : ℕ). Sized a.self.now.blocks loop.self.blocks a.tail loop.after (weight_of_all (drop i a.body.now))) first loop.invariant.size
+
+pub statement-returns-in-Lookup-clause-compiles : goal.statement-returns-in-Lookup-clause-compiles
+statement-returns-in-Lookup-clause-compiles t c =
+    ok_still c.search.result _ _ (λ after compiles. compiles c.args.self.now.hidden c.args.exit) c.search.ensures.compiles
+
+pub statement-returns-in-Walk-clause-compiles : goal.statement-returns-in-Walk-clause-compiles
+statement-returns-in-Walk-clause-compiles t c =
+    ok_still c.search-in-Walk.result _ _ (λ after compiles. compiles c.args.self.now.hidden c.args.exit) c.search-in-Walk.ensures.compiles
+
+pub statement-returns-in_default-clause-compiles : goal.statement-returns-in_default-clause-compiles
+statement-returns-in_default-clause-compiles t c =
+    let a = c.args in
+    let before = c.before-in_default in
+    compiles_as a.self.now.blocks a.self.now.hidden a.exit a.statement.now c.plain.result a.tail before.result c.plain.ensures.does before.ensures.code
+
+pub statement-returns-in_default-clause-slots : goal.statement-returns-in_default-clause-slots
+statement-returns-in_default-clause-slots t c =
+    ok_still c.before-in_default.result _ _ (λ after few. omega (arith, few, weight_positive c.args.statement.now)) c.before-in_default.ensures.slots
+
+pub statement-returns-in_default-clause-size : goal.statement-returns-in_default-clause-size
+statement-returns-in_default-clause-size t c =
+    ok_still c.before-in_default.result _ _ (λ after more size most some fits room small. (small, omega (arith, more, fits, weight_positive c.args.statement.now))) c.before-in_default.ensures.size
