@@ -1,7 +1,6 @@
 pub mod Cases
 pub mod Piles
 pub mod Turns
-pub mod TestPrograms
 pub mod Stepping
 pub mod Arguments
 pub mod Misfits
@@ -21,3 +20,4 @@ mod WorkedStates
 pub mod CoreRuns
 pub mod Counters
 pub mod WorkedCores
+pub mod Uses

@@ -10,3 +10,4 @@ pub mod Steps
 pub mod CoreRun
 pub mod Becomes
 pub mod Found
+pub mod Uses

@@ -5,8 +5,6 @@ mod run;
 mod start;
 mod state;
 mod task;
-#[cfg(test)]
-mod tests;
 mod types;
 mod weight;
 

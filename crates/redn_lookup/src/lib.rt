@@ -7,6 +7,7 @@ ghost use Rattle.redn_kernel.specs.Source.{value_of};
 ghost use Rattle.redn_kernel.specs.CoreRun.{cell_of};
 ghost use Rattle.redn_kernel.specs.Becomes.{Becomes};
 ghost use Rattle.redn_kernel.specs.Found.{LeaveFound, buckets};
+ghost use Rattle.redn_kernel.specs.Uses.{AllBelow};
 ghost use Rattle.redn_lookup.specs.Lookup.{IsLookup, bucket_of, misses_of, cores_of};
 
 use redn_kernel::{Cell, Core, Kernel, Word, cell_for};
@@ -75,6 +76,7 @@ fn cores(
 pub fn lookup_core(alloc: Global, s: &Kernel) -> Result<Items<Core>, Memory>
     requires { IsLookup s.now }
     ensures same { IfOk result (λ cores. Becomes s.now cores) }
+    ensures hidden { IfOk result (λ cores. AllBelow 1 cores) }
     ensures finds { IfOk result (λ cores. (to table : ℕ) (offset key : Word) (probes : ℕ) →
         s.now ≡ Kernel.Lookup to table offset key probes →
         LeaveFound to table key (λ tables vars. buckets probes (value_of vars offset)) cores) }
@@ -90,24 +92,4 @@ pub fn lookup_core(alloc: Global, s: &Kernel) -> Result<Items<Core>, Memory>
         unreachable!()
     };
     cores(alloc, *to, *table, *offset, *key, *probes - 1)
-}
-
-#[cfg(test)]
-mod tests {
-    use super::*;
-    use std::test::Fail;
-
-    #[test]
-    fn a_lookup_is_a_move_and_a_look(rt: HostRuntime) -> Result<(), Fail> {
-        let lookup = Kernel::Lookup {
-            to: 2,
-            table: 0,
-            offset: Word::Var(0),
-            key: Word::Var(1),
-            probes: 2,
-        };
-        let cores = lookup_core(rt.alloc(), &lookup)?;
-        assert_eq!(rt; cores.as_slice().len(), 2);
-        Ok(())
-    }
 }

@@ -3,6 +3,7 @@ pub mod Files
 pub mod Reads
 pub mod Writes
 pub mod StoreCounts
+pub mod Seen
 pub mod StoreState
 pub mod StoreView
 pub mod SinkState

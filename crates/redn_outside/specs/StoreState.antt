@@ -1,5 +1,5 @@
 -- A store in memory.
-use Rattle.std.specs.Prelude.{ℕ, List, Result, Ok, Err, Contains, refl}
+use Rattle.std.specs.Prelude.{ℕ, Bool, true, false, List, [], ◌∷◌, Result, Ok, Err, Contains, refl}
 use Rattle.std.specs.FinMap as finite
 use Rattle.std.specs.Coded.{Coded, code_by, coded×, coded_ℕ, coded_list}
 use Rattle.redn_outside.specs.Counts.{one_more}
@@ -42,6 +42,11 @@ store_state_code =
 -- a store that holds nothing and was not called yet, whose calls of these numbers will fail
 abbrev pub empty_store : List ℕ → StoreState
 empty_store fail = record { files = finite.empty; fail = fail; calls = 0; counts = no_answers }
+
+-- no number of a call that fails is listed
+abbrev pub fails_nowhere : List ℕ → Bool
+fails_nowhere [] = true
+fails_nowhere (n ∷ rest) = false
 
 -- the next call is one of those that fail
 abbrev pub NextFails : StoreState → Type 0

@@ -4,7 +4,7 @@ use crate::store::{ReadFault, WriteFault};
 
 /// How often a store answered what. A count stays at its greatest value.
 #[derive(Clone, Copy, Debug)]
-pub(crate) struct StoreCounts {
+pub struct StoreCounts {
     pub read_faults: u64,
     pub write_faults: u64,
     pub long_answers: u64,

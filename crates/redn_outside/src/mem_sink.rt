@@ -1,4 +1,4 @@
-ghost use Rattle.std.specs.Prelude.{◌≡◌, ◌↔◌, ◌⊎◌, [], Some, IfOk, OnOk, IsErr};
+ghost use Rattle.std.specs.Prelude.{◌≡◌, ◌↔◌, ◌⊎◌, [], Some, false, IfOk, OnOk, IsErr};
 ghost use Rattle.redn_outside.specs.Counts.{NeverFalls};
 ghost use Rattle.redn_outside.specs.SinkState.{empty_sink, NextFails, Fits, after_put, after_fault, half};
 
@@ -54,11 +54,8 @@ impl MemSink {
 }
 
 impl Sink for MemSink {
-    ghost told = { λ s. Some s.written };
-
-    ghost faults = { λ s. s.faults };
-
-    ghost is_reliable = { λ _. ⊥ };
+    // A piece may find no room.
+    ghost seen = { λ s. record { told = Some s.written; faults = s.faults; reliable = false } };
 
     fn put(&mut self, bytes: &[u8]) -> Result<(), Failed>
         // A call fails where its number is listed or the piece does not fit, and else nowhere.

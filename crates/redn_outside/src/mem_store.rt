@@ -4,7 +4,7 @@ ghost use Rattle.redn_outside.specs.Counts.{NeverFalls};
 ghost use Rattle.redn_outside.specs.Files.{file_at, with_file, files_in, OthersStay};
 ghost use Rattle.redn_outside.specs.Reads as reads;
 ghost use Rattle.redn_outside.specs.StoreCounts.{ReadCountsNeverFall};
-ghost use Rattle.redn_outside.specs.StoreState.{empty_store, NextFails, after_read, after_write};
+ghost use Rattle.redn_outside.specs.StoreState.{empty_store, NextFails, after_read, after_write, fails_nowhere};
 
 use crate::counts::StoreCounts;
 use crate::store::{ReadFault, Store, WriteFault};
@@ -88,17 +88,7 @@ fn put_file(
 }
 
 impl Store for MemStore {
-    ghost told = { λ s. Some s.files };
-
-    ghost read_faults = { λ s. s.counts.read_faults };
-
-    ghost write_faults = { λ s. s.counts.write_faults };
-
-    ghost long_answers = { λ s. s.counts.long_answers };
-
-    ghost missing_answers = { λ s. s.counts.missing_answers };
-
-    ghost is_reliable = { λ s. s.fail ≡ [] };
+    ghost seen = { λ s. record { told = Some s.files; counts = s.counts; reliable = fails_nowhere s.fail } };
 
     fn read(&mut self, alloc: Global, name: &str, limit: u64) -> Result<Vec<u8>, ReadFault>
         requires { limit < 2 ^ 64 - 1 }

@@ -1,4 +1,4 @@
-ghost use Rattle.std.specs.Prelude.{◌≡◌, None, is_ok, if◌then◌else◌};
+ghost use Rattle.std.specs.Prelude.{◌≡◌, None, false, is_ok, if◌then◌else◌};
 ghost use Rattle.redn_outside.specs.Counts.{one_more, NeverFalls};
 
 use crate::sink::{Failed, Sink};
@@ -31,11 +31,7 @@ impl<'a, R: Print> StdSink<'a, R> {
 }
 
 impl<'a, R: Print> Sink for StdSink<'a, R> {
-    ghost told = { λ _. None };
-
-    ghost faults = { λ s. s };
-
-    ghost is_reliable = { λ _. ⊥ };
+    ghost seen = { λ s. record { told = None; faults = s; reliable = false } };
 
     fn put(&mut self, bytes: &[u8]) -> Result<(), Failed>
         // It counts its faults.

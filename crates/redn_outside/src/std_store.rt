@@ -1,4 +1,4 @@
-ghost use Rattle.std.specs.Prelude.{◌≡◌, ◌+◌, ◌-◌, ◌^◌, ◌<◌, ◌≤◌, None, length, IfOk};
+ghost use Rattle.std.specs.Prelude.{◌≡◌, ◌+◌, ◌-◌, ◌^◌, ◌<◌, ◌≤◌, None, false, length, IfOk};
 ghost use Rattle.redn_outside.specs.Counts.{NeverFalls};
 ghost use Rattle.redn_outside.specs.Reads as reads;
 ghost use Rattle.redn_outside.specs.StoreCounts.{no_answers, counts_after_read, counts_after_write, ReadCountsNeverFall};
@@ -41,17 +41,7 @@ impl<'a, R: Files> StdStore<'a, R> {
 }
 
 impl<'a, R: Files> Store for StdStore<'a, R> {
-    ghost told = { λ _. None };
-
-    ghost read_faults = { λ s. s.read_faults };
-
-    ghost write_faults = { λ s. s.write_faults };
-
-    ghost long_answers = { λ s. s.long_answers };
-
-    ghost missing_answers = { λ s. s.missing_answers };
-
-    ghost is_reliable = { λ _. ⊥ };
+    ghost seen = { λ s. record { told = None; counts = s; reliable = false } };
 
     fn read(&mut self, alloc: Global, name: &str, limit: u64) -> Result<Vec<u8>, ReadFault>
         requires { limit < 2 ^ 64 - 1 }

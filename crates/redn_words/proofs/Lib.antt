@@ -10,6 +10,7 @@ pub mod Bytes
 pub mod Footprints
 pub mod Ranges
 pub mod Deliveries
+pub mod Digits
 pub mod Domains
 pub mod Runs
 pub mod Misfits

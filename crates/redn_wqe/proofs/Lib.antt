@@ -1,4 +1,3 @@
-pub mod Digits
 pub mod FieldPlaces
 pub mod Slots
 mod Worked

@@ -5,7 +5,7 @@ use Rattle.std.proofs.lemmas.List.{take_all, take_at}
 use borrow.Rule.Slice.PartMut.{put_mid, post_of}
 use Rattle.redn_words.specs.Words.{bytes_at, number, spelled}
 use Rattle.redn_words.specs.Requests.{decoded, encoded}
-use Rattle.redn_wqe.proofs.Digits.{AreBytes, spelled-number}
+use Rattle.redn_words.proofs.Digits.{AreBytes, spelled-number}
 
 -- one more field of a slot
 read_on : (s front : List ℕ) (o n : ℕ) → front ≡ take o s → o + n ≤ length s → AreBytes s → front ++ spelled n (number n s o) ≡ take (o + n) s

@@ -8,6 +8,8 @@ use Rattle.redn_kernel.specs.Source.{value_of}
 use Rattle.redn_kernel.specs.Becomes.{Becomes}
 use Rattle.redn_kernel.specs.Found.{LeaveFound, buckets}
 use Rattle.redn_lookup.specs.Lookup.{cores_of}
+use Rattle.redn_kernel.specs.Uses.{AllBelow}
+use Rattle.redn_lookup.proofs.Uses.{lookup_uses}
 use Rattle.redn_lookup.proofs.Lookups.{lookup_becomes, lookup_finds, finds_in, some_probes}
 use Rattle.redn_lookup.proofs.lookup_core.Goals as goal
 
@@ -33,3 +35,8 @@ returns-clause-finds c =
     finds_in (cores_of i.to i.table i.offset i.key (i.probes - 1)) i.to i.table (suc (i.probes - 1)) to table probes i.offset i.key offset key (ap (k.Lookup i.to i.table i.offset i.key) all ∙ sym i.is ∙ is)
     (lookup_finds i.to i.table i.offset i.key (i.probes - 1)))
     c.cores.ensures
+
+pub returns-clause-hidden : goal.returns-clause-hidden
+returns-clause-hidden c =
+    let i = c.in-Lookup in
+    ok_of c.cores.result _ (AllBelow 1) (lookup_uses i.to i.table i.offset i.key (i.probes - 1)) c.cores.ensures

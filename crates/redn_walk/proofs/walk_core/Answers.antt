@@ -8,6 +8,8 @@ use Rattle.redn_kernel.specs.Source.{value_of}
 use Rattle.redn_kernel.specs.Becomes.{Becomes}
 use Rattle.redn_kernel.specs.Found.{LeaveFound, nodes}
 use Rattle.redn_walk.specs.Walk.{cores_of}
+use Rattle.redn_kernel.specs.Uses.{AllBelow}
+use Rattle.redn_walk.proofs.Uses.{walk_uses}
 use Rattle.redn_walk.proofs.Walks.{walk_becomes, walk_finds, finds_in, some_nodes}
 use Rattle.redn_walk.proofs.walk_core.Goals as goal
 
@@ -33,3 +35,8 @@ returns-clause-finds c =
     finds_in (cores_of i.to i.table i.offset i.key i.nodes) i.to i.table (suc (i.nodes - 1)) to table count i.offset i.key offset key (ap (k.Walk i.to i.table i.offset i.key) all ∙ sym i.is ∙ is)
     (subst (λ (n : ℕ). LeaveFound i.to i.table i.key (λ tables vars. nodes tables i.table (suc (i.nodes - 1)) (value_of vars i.offset)) (cores_of i.to i.table i.offset i.key n)) all (walk_finds i.to i.table i.offset i.key (i.nodes - 1) few)))
     c.cores.ensures
+
+pub returns-clause-hidden : goal.returns-clause-hidden
+returns-clause-hidden c =
+    let i = c.in-Walk in
+    ok_of c.cores.result _ (AllBelow 2) (walk_uses i.to i.table i.offset i.key i.nodes) c.cores.ensures
