@@ -13,11 +13,11 @@ pub none_behind : {X : Type 0} (xs ys : List X) → xs ++ ys ≡ [] → ys ≡ [
 none_behind [] ys e = e
 none_behind (x ∷ xs) ys e = absurd (cc)
 
-unless_none : (b : Bool) (rule : ℕ) → unless b rule ≡ [] → b ≡ true
+pub unless_none : (b : Bool) (rule : ℕ) → unless b rule ≡ [] → b ≡ true
 unless_none true rule e = refl
 unless_none false rule e = absurd (cc)
 
-and_right : (a b : Bool) → (a && b) ≡ true → b ≡ true
+pub and_right : (a b : Bool) → (a && b) ≡ true → b ≡ true
 and_right true b e = e
 and_right false b e = absurd (cc)
 
@@ -28,7 +28,7 @@ pub record Small (i : Image) : Type 0 where
   pub receives : length i.receives ≤ 16
   pub size : length i.memory ≤ 33554432
 
-header_small : (r q c z m : ℕ) → header_faults r q c z m ≡ [] → (nat_le r 4096 ≡ true) × (nat_le q 65535 ≡ true) × ((nat_lt 0 c && nat_le c 16) ≡ true) × ((m % 8 == 0 && nat_le m 33554432) ≡ true)
+pub header_small : (r q c z m : ℕ) → header_faults r q c z m ≡ [] → (nat_le r 4096 ≡ true) × (nat_le q 65535 ≡ true) × ((nat_lt 0 c && nat_le c 16) ≡ true) × ((m % 8 == 0 && nat_le m 33554432) ≡ true)
 header_small r q c z m e =
     let four = none_before _ (unless (m % 8 == 0 && nat_le m 33554432) 5) e in
     let three = none_before _ (unless (z == 0) 4) four in

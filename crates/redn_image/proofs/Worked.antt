@@ -1,11 +1,14 @@
 -- A small image by hand: its bytes, and what is refused of them.
-use Rattle.std.proofs.Common.{◌≡◌, ℕ, false, List, [], ◌∷◌, ◌++◌, refl, replicate, take, set}
+use Rattle.std.proofs.Common.{◌≡◌, ℕ, false, List, [], ◌∷◌, ◌++◌, refl, lit≤, replicate, take, set}
 use Rattle.std.specs.Prelude.{Some, None}
 use Rattle.redn_words.specs.declared.types.Kind.TheVariants.{Code, Control}
 use Rattle.redn_words.specs.Words.{number, spelled}
 use Rattle.redn_words.specs.Requests.{encoded}
-use Rattle.redn_image.specs.Rules.{Image, Numbers, RegionNumbers, QueueNumbers, Fault, Obeys, faults}
-use Rattle.redn_image.specs.Spelling.{spelling, spelled_region, spelled_queue, spelled_receive, NotMagic, OtherVersion, TooShort, TooLong, Broken, refused}
+use Rattle.redn_image.specs.Rules.{Image, Numbers, RegionNumbers, QueueNumbers, Fault, Obeys, fault_at, faults, first_of}
+use Rattle.redn_image.specs.Spelling.{spelling, spelled_region, spelled_queue, spelled_receive, NotMagic, OtherVersion, TooShort, TooLong, Broken, refused, wrong_length}
+use Rattle.redn_image.specs.Answers.{HasHeader, NamesFirst, SaysWhy}
+use Rattle.redn_image.specs.declared.image.RuleFault.TheVariants as row_answers
+use Rattle.redn_image.specs.declared.read.ImageFault.TheVariants as byte_answers
 
 -- a queue whose first request rewrites its second from NOOP to SEND
 rewriting : Image
@@ -222,3 +225,28 @@ too_many_slots_together = refl
 by_rule_then_by_row : faults (record { regions = region 1 0 0 0 0 4 8 ∷ region 0 9 0 0 0 4 8 ∷ []; queues = []; receives = record { base = 0; len = 0 } ∷ []; size = 12 }) ≡ record { rule = 5; index = 0 } ∷ record { rule = 6; index = 1 } ∷ record { rule = 7; index = 1 } ∷ record { rule = 10; index = 0 } ∷ record { rule = 10; index = 1 } ∷ []
 unfolding region faults
 by_rule_then_by_row = refl
+
+-- what is answered: the first fault of rows, or the one reason of bytes
+the_first_fault : first_of (breaks 7 ++ breaks 8) ≡ Some (fault_at 7 1)
+unfolding breaks
+the_first_fault = refl
+
+first_named : NamesFirst (breaks 7 ++ breaks 8) (row_answers.Rule 7 1)
+unfolding breaks
+first_named = refl
+
+none_of_one : first_of [] ≡ None
+none_of_one = refl
+
+too_many_bytes : SaysWhy (wrong_length 337 336 None) (byte_answers.Trailing 1)
+too_many_bytes = refl
+
+too_few_bytes : SaysWhy (wrong_length 335 336 None) (byte_answers.Short 336)
+too_few_bytes = refl
+
+enough_bytes : wrong_length 336 336 (Some NotMagic) ≡ Some NotMagic
+enough_bytes = refl
+
+its_header : HasHeader its_bytes 2 1 1 192
+unfolding its_bytes number spelled refused
+its_header = record { long = lit≤ tt; spelled = refl; keeps = refl; refusal = refl }

@@ -3,3 +3,5 @@ pub mod View
 pub mod Spelling
 pub mod Agreement
 pub mod Faithful
+pub mod Answers
+pub mod Laws

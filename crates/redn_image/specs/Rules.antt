@@ -7,6 +7,9 @@ use Rattle.redn_words.specs.declared.types.Kind.{Kind}
 use Rattle.redn_words.specs.declared.types.Kind.TheVariants.{Vars, Table, Code, Control, Message}
 use Rattle.redn_words.specs.declared.types.QueueRow.{QueueRow}
 use Rattle.redn_words.specs.declared.types.Receive.{Receive}
+pub use Rattle.redn_image.specs.declared.numbers.RegionNumbers.{RegionNumbers}
+pub use Rattle.redn_image.specs.declared.numbers.QueueNumbers.{QueueNumbers}
+pub use Rattle.redn_image.specs.declared.numbers.Fault.{Fault}
 
 pub record Image : Type 0 where
   pub regions : List Region
@@ -15,27 +18,14 @@ pub record Image : Type 0 where
   pub memory : List ℕ
 
 -- the rows as their numbers stand in the bytes of an image
-pub record RegionNumbers : Type 0 where
-  pub key : ℕ
-  pub domain : ℕ
-  pub kind : ℕ
-  pub table : ℕ
-  pub rights : ℕ
-  pub base : ℕ
-  pub len : ℕ
-
-pub record QueueNumbers : Type 0 where
-  pub domain : ℕ
-  pub managed : ℕ
-  pub base : ℕ
-  pub slots : ℕ
-  pub limit : ℕ
-
 pub record Numbers : Type 0 where
   pub regions : List RegionNumbers
   pub queues : List QueueNumbers
   pub receives : List Receive
   pub size : ℕ  -- of memory
+
+abbrev pub parts_of : List Region → List QueueRow → List Receive → List ℕ → Image
+parts_of regions queues receives memory = record { regions = regions; queues = queues; receives = receives; memory = memory }
 
 abbrev pub kind_number : Kind → ℕ
 kind_number Vars = 0
@@ -92,10 +82,8 @@ slots_are_few earlier q = nat_le (sum_by (λ (e : QueueNumbers). e.slots) earlie
 abbrev pub receive_is_inside : ℕ → List Receive → Receive → Bool
 receive_is_inside size earlier r = r.base % 8 == 0 && r.len % 8 == 0 && nat_le r.len 64 && nat_le (r.base + r.len) size
 
--- a broken rule, and the row that breaks it
-pub record Fault : Type 0 where
-  pub rule : ℕ
-  pub index : ℕ
+abbrev pub fault_at : ℕ → ℕ → Fault
+fault_at rule index = record { rule = rule; index = index }
 
 -- the rows that break a rule, in order
 abbrev pub breaking : {X : Type 0} → ℕ → (List X → X → Bool) → List X → List X → List Fault
@@ -132,6 +120,11 @@ row_faults n =
 -- all broken rules of an image, in the order in which they are refused
 unfoldable pub faults : Numbers → List Fault
 faults n = header_faults (length n.regions) (length n.queues) (length n.receives) 0 n.size ++ row_faults n
+
+-- the first of them, if there is one
+abbrev pub first_of : List Fault → Option Fault
+first_of [] = None
+first_of (f ∷ rest) = Some f
 
 -- an image keeps every rule
 abbrev pub Obeys : Image → Type 0

@@ -77,11 +77,13 @@ abbrev pub first_fault : List Fault → Option Refused → Option Refused
 first_fault [] otherwise = otherwise
 first_fault (f ∷ rest) otherwise = Some (Broken f)
 
+-- where there are fewer or more bytes than are needed, and otherwise another reason
+abbrev pub wrong_length : ℕ → ℕ → Option Refused → Option Refused
+wrong_length len need otherwise = if nat_lt len need then Some (TooShort need) else (if nat_lt need len then Some (TooLong (len - need)) else otherwise)
+
 abbrev pub refused_rows : List ℕ → ℕ → ℕ → ℕ → ℕ → Option Refused
 refused_rows b regions queues receives size =
-    let need = 32 + 32 * regions + 32 * queues + 16 * receives + size in
-    if nat_lt (length b) need then Some (TooShort need) else (
-    if nat_lt need (length b) then Some (TooLong (length b - need)) else first_fault (row_faults (numbers_at b regions queues receives size)) None)
+    wrong_length (length b) (32 + 32 * regions + 32 * queues + 16 * receives + size) (first_fault (row_faults (numbers_at b regions queues receives size)) None)
 
 -- the first reason, in this order, why bytes spell no image: too few for a header, another first word, another version, the rules of
 -- the header, too few or too many bytes for what it announces, and the rules of the rows

@@ -1,12 +1,13 @@
 ghost use Rattle.std.specs.Prelude.{◌≡◌, ◌++◌, ◌^◌, ◌<◌, ◌≤◌, ℕ, IfOk, OnOk, List, map, take, is_ok, if◌then◌else◌};
 ghost use Rattle.std.specs.List.{flat_map};
 ghost use Rattle.redn_words.specs.Words.{spelled};
-ghost use Rattle.redn_image.specs.Rules.{region_numbers, queue_numbers, kind_number, table_number};
+ghost use Rattle.redn_image.specs.Rules.{region_numbers, queue_numbers};
 ghost use Rattle.redn_image.specs.Spelling.{spelled_region, spelled_queue, spelled_receive, spelled_header, Spells};
 
 use crate::image::Image;
-use byteorder::{BigEndian, ByteOrder};
-use redn_words::{Kind, Memory, QueueRow, Receive, Region};
+use crate::numbers::kind_fields;
+use byteorder::{BigEndian, WriteBytesExt};
+use redn_words::{Memory, QueueRow, Receive, Region};
 use std::alloc::Global;
 
 /// Adds the two bytes of a number, the greatest digit first.
@@ -14,43 +15,21 @@ use std::alloc::Global;
 fn put_u16(out: &mut Vec<u8>, x: u16) -> Result<(), Memory>
     ensures { OnOk result (out.new.items ≡ out.old.items ++ spelled 2 x) }
 {
-    let mut bytes = [0; 2];
-    BigEndian::write_u16(&mut bytes, x);
-    out.extend_from_slice(&bytes)?;
-    Ok(())
+    out.write_u16::<BigEndian>(x).map_err(|_| Memory)
 }
 
 #[tactic(auto, unfolding(redn_words::specs::Words::spelled))]
 fn put_u32(out: &mut Vec<u8>, x: u32) -> Result<(), Memory>
     ensures { OnOk result (out.new.items ≡ out.old.items ++ spelled 4 x) }
 {
-    let mut bytes = [0; 4];
-    BigEndian::write_u32(&mut bytes, x);
-    out.extend_from_slice(&bytes)?;
-    Ok(())
+    out.write_u32::<BigEndian>(x).map_err(|_| Memory)
 }
 
 #[tactic(auto, unfolding(redn_words::specs::Words::spelled))]
 fn put_u64(out: &mut Vec<u8>, x: u64) -> Result<(), Memory>
     ensures { OnOk result (out.new.items ≡ out.old.items ++ spelled 8 x) }
 {
-    let mut bytes = [0; 8];
-    BigEndian::write_u64(&mut bytes, x);
-    out.extend_from_slice(&bytes)?;
-    Ok(())
-}
-
-/// The numbers of a kind and of its table.
-fn kind_fields(kind: Kind) -> (u16, u32)
-    ensures { result ≡ (kind_number kind, table_number kind) }
-{
-    match kind {
-        Kind::Vars => (0, 0),
-        Kind::Table(table) => (1, u32::from(table)),
-        Kind::Code => (2, 0),
-        Kind::Control => (3, 0),
-        Kind::Message => (4, 0),
-    }
+    out.write_u64::<BigEndian>(x).map_err(|_| Memory)
 }
 
 #[tactic(auto, unfolding(crate::specs::Spelling::spelled_region))]

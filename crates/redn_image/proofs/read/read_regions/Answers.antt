@@ -1,0 +1,9 @@
+use Rattle.std.proofs.Common.{[], ◌∷◌, ◌++◌, ap, ◌∙◌}
+use Rattle.redn_image.specs.Rules.{RegionNumbers}
+use Rattle.redn_image.specs.Spelling.{region_at}
+use Rattle.redn_image.proofs.Reading.{rows_more}
+use Rattle.redn_image.proofs.read.read_regions.Goals as goal
+
+pub loop-i-preserved : goal.loop-i-preserved
+loop-i-preserved c =
+    c.in_ok-push.ensures.items ∙ ap (λ (x : RegionNumbers). c.loop-i.rows.items ++ x ∷ []) c.read_region.ensures ∙ rows_more region_at 32 c.args.bytes.now c.args.at c.loop-i.i _ c.loop-i.invariant
