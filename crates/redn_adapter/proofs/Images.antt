@@ -1,5 +1,5 @@
 -- What an image's rules say of its ranges.
-use Rattle.std.proofs.Common.{◌≡◌, ℕ, zero, suc, ◌+◌, ◌*◌, ◌%◌, ◌<◌, ◌≤◌, Bool, true, false, cond, ◌&&◌, ◌==◌, List, [], ◌∷◌, ◌++◌, Option, Some, None, ◌||◌, not, length, map, take, get_or, refl, ap, subst, ◌∙◌, inl, inr, arith, append_assoc}
+use Rattle.std.proofs.Common.{◌≡◌, ℕ, zero, suc, ◌+◌, ◌*◌, ◌%◌, ◌<◌, ◌≤◌, Bool, true, false, cond, ◌&&◌, ◌==◌, List, [], ◌∷◌, ◌++◌, Option, Some, None, ◌||◌, length, map, take, get_or, refl, ap, subst, ◌∙◌, inl, inr, arith, append_assoc}
 use Rattle.std.specs.Prelude.{nat_lt, nat_le, is_some, slice_get, IfSome}
 use Rattle.std.specs.List.{All, list_any}
 use Rattle.std.proofs.lemmas.Bool.{and_parts, not-true, cases_lt, ltb-true, leb-true}
@@ -12,7 +12,10 @@ use Rattle.redn_words.specs.declared.types.QueueRow.{QueueRow}
 use Rattle.redn_words.specs.declared.types.Receive.{Receive}
 use Rattle.redn_words.specs.Access.{region_of}
 use Rattle.redn_words.specs.States.{fresh_chain}
-use Rattle.redn_image.specs.Rules.{Image, RegionNumbers, QueueNumbers, Fault, Numbers, numbers_of, region_numbers, queue_numbers, breaking, unless, header_faults, row_faults, faults, key_is_new, kind_is_known, region_is_inside, ring_is_inside, receive_is_inside, slots_are_few, table_is_one, Obeys}
+use Rattle.redn_image.specs.Rules.{Image, Numbers, numbers_of, region_numbers, queue_numbers, breaking, unless, header_faults, row_faults, faults, key_is_new, kind_is_known, region_is_inside, ring_is_inside, receive_is_inside, slots_are_few, table_is_one, Obeys}
+use Rattle.redn_image.specs.declared.numbers.RegionNumbers.{RegionNumbers}
+use Rattle.redn_image.specs.declared.numbers.QueueNumbers.{QueueNumbers}
+use Rattle.redn_image.specs.declared.numbers.Fault.{Fault}
 use Rattle.redn_adapter.specs.declared.opening.OpenFault.TheVariants as fault
 use Rattle.redn_region.specs.Rows.{repeats}
 use Rattle.redn_region.proofs.Keys.{repeats_found, repeats_past}

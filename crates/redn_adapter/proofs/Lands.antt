@@ -1,18 +1,16 @@
 -- A request in flight lands.
-use Rattle.std.proofs.Common.{◌≡◌, ℕ, ◌<◌, Bool, true, false, cond, List, length, Option, Some, None, refl, sym, ap, ◌∙◌}
+use Rattle.std.proofs.Common.{◌≡◌, ℕ, Bool, true, false, cond, List, Option, Some, None, refl, sym, ap, ◌∙◌}
 use Rattle.std.specs.Prelude.{slice_get, slice_set}
 use Rattle.std.specs.Option.{option_map}
-use Rattle.std.proofs.lemmas.Option.{slice_get_within}
 use Rattle.redn_words.specs.declared.types.Flight.{Flight}
 use Rattle.redn_words.specs.declared.types.Obs.{Obs}
 use Rattle.redn_words.specs.declared.types.Action.TheVariants.{Land}
 use Rattle.redn_words.specs.States.{Queue, State}
 use Rattle.redn_words.specs.Landings.{Landing, changed}
-use Rattle.redn_words.specs.Steps.{possible, after, shown, flying, stopped, landed_at, landing_at, land_leaves}
+use Rattle.redn_words.specs.Steps.{after, shown, flying, stopped, landed_at, landing_at, land_leaves}
 use Rattle.redn_words.proofs.Actions.{landed_is, land_shows_is}
-use Rattle.redn_words.proofs.Others.{acting_there}
-use Rattle.redn_adapter.specs.declared.landing.Landing.TheVariants.{Done, Refused}
-use Rattle.redn_adapter.specs.Landed.{answer_of}
+use Rattle.redn_exec.specs.declared.landing.Landing.TheVariants.{Done, Refused}
+use Rattle.redn_exec.specs.Landed.{answer_of}
 
 -- what an answer says of the landing
 allowed_by : (b : Bool) (o shown : Obs) → cond b (Done o) (Refused o) ≡ Done shown → (b ≡ true) × (shown ≡ o)
@@ -24,13 +22,9 @@ refused_by true o shown e = absurd (cc)
 refused_by false o shown e = (refl, cc)
 
 -- the request whose copy this is
-flight_of : (copy : List ℕ) (o : Option Flight) → option_map (λ (f : Flight). f.copy) o ≡ Some copy → (f : Flight) × (o ≡ Some f) × (f.copy ≡ copy)
+pub flight_of : (copy : List ℕ) (o : Option Flight) → option_map (λ (f : Flight). f.copy) o ≡ Some copy → (f : Flight) × (o ≡ Some f) × (f.copy ≡ copy)
 flight_of copy None e = absurd (cc)
 flight_of copy (Some f) e = (f, refl, let is : f.copy ≡ copy = cc in is)
-
--- a queue where a request lands is there
-pub queue_there : (s : State) (q i : ℕ) → possible s (Land q i) ≡ true → q < length s.queues
-queue_there s q i p = let here = acting_there s (Land q i) q refl p in slice_get_within s.queues q here.0 here.1
 
 -- the landing l of an index in queue u, which leaves these bytes
 pub record IsLandingAt (s : State) (q i : ℕ) (u : Queue) (left : List ℕ) (l : Landing) : Type 0 where

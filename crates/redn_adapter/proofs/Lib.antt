@@ -1,8 +1,6 @@
-pub mod Windows
-pub mod Flying
+pub mod Taken
+pub mod Quiet
 pub mod Delivery
-pub mod FirstWords
-pub mod ReadWords
 pub mod Lands
 pub mod Starts
 pub mod Images

@@ -1,20 +1,13 @@
 -- A start of a queue that is there, whose head's copy is held.
-use Rattle.std.proofs.Common.{get_or, ◌≡◌, ℕ, ◌+◌, true, List, Some, refl, sym, ap}
+use Rattle.std.proofs.Common.{◌≡◌, ℕ, ◌+◌, List, Some, refl, sym, ap}
 use Rattle.std.specs.Prelude.{slice_get}
 use Rattle.std.specs.FinMap.{get}
 use Rattle.redn_words.specs.declared.types.Action.TheVariants.{Start}
 use Rattle.redn_words.specs.Requests.{decoded}
 use Rattle.redn_words.specs.States.{Queue, State}
-use Rattle.redn_words.specs.Steps.{possible, shown, class_of}
-use Rattle.std.proofs.lemmas.Option.{slice_get_within}
+use Rattle.redn_words.specs.Steps.{shown, class_of}
 use Rattle.redn_words.proofs.Actions.{started_is, start_shows_is}
-use Rattle.redn_words.proofs.Others.{acting_there}
-use Rattle.redn_adapter.proofs.Delivery.{read_at}
 use Rattle.redn_adapter.specs.Running.{Running, next_of, started_after, started_shown}
-
--- a queue that starts, as it is read
-pub queue_at : (r : Running) (q : ℕ) (u : Queue) → possible r.state (Start q) ≡ true → u ≡ get_or r.state.queues q u → slice_get r.state.queues q ≡ Some u
-queue_at r q u p e = let here = acting_there r.state (Start q) q refl p in read_at r.state.queues q u (slice_get_within r.state.queues q here.0 here.1) e
 
 module _ (r : Running) (q : ℕ) (u : Queue) (there : slice_get r.state.queues q ≡ Some u) (copy : List ℕ) (held : Some copy ≡ get u.held u.head) where
   pub leaves : started_after r q copy (decoded copy) (class_of (decoded copy)) ≡ next_of r (Start q)

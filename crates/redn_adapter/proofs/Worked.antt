@@ -1,26 +1,24 @@
 -- Small cases of the definitions, computed.
-use Rattle.std.proofs.Common.{◌≡◌, [], ◌∷◌, Some, None, refl}
-use Rattle.std.specs.FinMap.{get, gets}
-use Rattle.redn_words.specs.declared.types.Obs.TheVariants as shows
-use Rattle.redn_words.specs.Landings.{refused, done}
-use Rattle.redn_adapter.specs.declared.landing.Landing.TheVariants as answers
-use Rattle.redn_adapter.specs.Pools.{window, copies_in}
-use Rattle.redn_adapter.specs.Landed.{answer_of}
+use Rattle.std.proofs.Common.{◌≡◌, ℕ, [], ◌∷◌, Some, None, refl}
+use Rattle.redn_words.specs.declared.types.Receive.{Receive}
+use Rattle.redn_words.specs.States.{fresh_chain}
+use Rattle.redn_adapter.specs.declared.opening.OpenFault.TheVariants as fault
+use Rattle.redn_adapter.specs.Mails.{pending_bytes, after_delivery}
+use Rattle.redn_adapter.specs.Opening.{misfits}
 
--- places 0 to 3 of a queue whose head is 5: indexes 5 and 7 are held
-held_places : window 5 (Some (1 ∷ []) ∷ None ∷ Some (2 ∷ []) ∷ None ∷ []) ≡ (5, 1 ∷ []) ∷ (7, 2 ∷ []) ∷ []
-held_places = refl
+place : ℕ → Receive
+place len = record { base = 0; len = len }
 
-held_at_seven : get (copies_in 5 (Some (1 ∷ []) ∷ None ∷ Some (2 ∷ []) ∷ None ∷ [])) 7 ≡ Some (2 ∷ [])
-unfolding copies_in
-held_at_seven = simp gets refl
+-- chain 0 has no message, that of chain 1 fits its place of 2 bytes, and those of chains 2 and 3 don't
+misfits_of_four : misfits 0 (place 8 ∷ place 2 ∷ place 2 ∷ place 0 ∷ []) (None ∷ Some (7 ∷ 9 ∷ []) ∷ Some [] ∷ Some (1 ∷ []) ∷ []) ≡ fault.Message 2 0 2 ∷ fault.Message 3 1 0 ∷ []
+unfolding place
+misfits_of_four = refl
 
-held_at_six : get (copies_in 5 (Some (1 ∷ []) ∷ None ∷ Some (2 ∷ []) ∷ None ∷ [])) 6 ≡ None
-unfolding copies_in
-held_at_six = simp gets refl
+pending_at_first : pending_bytes (fresh_chain (Some (7 ∷ 9 ∷ []))).mail ≡ Some (7 ∷ 9 ∷ [])
+pending_at_first = refl
 
-answered_done : answer_of (done 0 8 [] (shows.Odd 1 2)) ≡ answers.Done (shows.Odd 1 2)
-answered_done = refl
+none_after_delivery : pending_bytes (after_delivery (fresh_chain (Some (7 ∷ 9 ∷ [])))).mail ≡ None
+none_after_delivery = refl
 
-answered_refused : answer_of (refused (shows.Refused 1 2)) ≡ answers.Refused (shows.Refused 1 2)
-answered_refused = refl
+delivery_counts : (after_delivery (fresh_chain (Some (7 ∷ 9 ∷ [])))).received ≡ 1
+delivery_counts = refl

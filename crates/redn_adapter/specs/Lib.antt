@@ -1,9 +1,6 @@
-pub mod Pools
-pub mod Flights
-pub mod QueueView
-pub mod Landed
 pub mod Running
 pub mod Opening
 pub mod Mails
 pub mod ChainView
 pub mod AdapterView
+pub mod Quiet

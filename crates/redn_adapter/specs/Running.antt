@@ -22,6 +22,10 @@ stepped r (Some p) = record { state = p.0; steps = r.steps + 1 }
 abbrev pub next_of : Running → Action → Running
 next_of r a = record { state = after r.state a; steps = r.steps + 1 }
 
+abbrev pub Runs : Option Queue → Type 0
+Runs None = ⊥
+Runs (Some queue) = queue.stopped ≡ false
+
 abbrev pub HeadIsHeld : Option Queue → Type 0
 HeadIsHeld None = ⊥
 HeadIsHeld (Some queue) = IsSome (finite.get queue.held queue.head)

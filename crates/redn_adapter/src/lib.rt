@@ -2,11 +2,9 @@
 
 mod adapter;
 mod chain;
-mod landing;
 mod opening;
-mod queue;
-#[cfg(test)]
-mod tests;
+mod starting;
+mod useful;
 
 pub use adapter::{Adapter, open};
 pub use opening::OpenFault;

@@ -2,15 +2,14 @@ ghost use Rattle.std.specs.Prelude.{◌≡◌, ◌+◌, ◌-◌, ◌^◌, ◌<�
 ghost use Rattle.redn_words.specs.Access.{EndsBy};
 ghost use Rattle.redn_region.specs.Rows.{repeats};
 ghost use Rattle.std.specs.Option.{option_map};
-ghost use Rattle.std.specs.List.{All};
 ghost use Rattle.redn_words.specs.States.{fresh_queue, fresh_chain};
 ghost use Rattle.redn_words.specs.Misfits.{misfit as misfit_of};
 ghost use Rattle.redn_adapter.specs.Opening.{misfits};
 
 use crate::chain::Chain;
-use crate::queue::Queue;
+use redn_queue::Queue;
 use redn_region::{Regions, RegionsFault};
-use redn_words::{GREATEST_RING, QueueRow, Receive, Region};
+use redn_words::{Memory, QueueRow, Receive, Region};
 use std::alloc::{AllocError, Global};
 
 /// Why an image isn't opened: a chain's message has `got` bytes where its place has `want`, or want
@@ -28,6 +27,17 @@ impl From<AllocError> for OpenFault {
     ghost from_gives = { λ _ e. e ≡ Memory };
 
     fn from(_e: AllocError) -> Self {
+        OpenFault::Memory
+    }
+}
+
+impl From<Memory> for OpenFault {
+    ghost use Rattle.std.specs.Prelude.{◌≡◌};
+    ghost use Rattle.redn_adapter.specs.declared.opening.OpenFault.TheVariants.{Memory};
+
+    ghost from_gives = { λ _ e. e ≡ Memory };
+
+    fn from(_e: Memory) -> Self {
         OpenFault::Memory
     }
 }
@@ -76,8 +86,7 @@ pub fn first_misfit(places: &[Receive], messages: &[Option<Vec<u8>>]) -> Option<
     None
 }
 
-pub fn first_queues(alloc: Global, rows: &[QueueRow]) -> Result<Vec<Queue>, AllocError>
-    requires { All (λ row. row.slots ≤ GREATEST_RING) rows.now }
+pub fn first_queues(alloc: Global, rows: &[QueueRow]) -> Result<Vec<Queue>, Memory>
     ensures { IfOk result (λ v. v.items ≡ map fresh_queue rows.now) }
 {
     let mut queues = Vec::with_capacity(alloc, rows.len())?;

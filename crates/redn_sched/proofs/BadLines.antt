@@ -6,7 +6,7 @@ use Rattle.std.specs.List.{list_all}
 use Rattle.std.proofs.lemmas.Fmt.{decimal_digit, decimal_injective, first_decimal}
 use Rattle.redn_words.specs.declared.types.Action.{Action}
 use Rattle.redn_words.specs.declared.types.Action.TheVariants.{Deliver, Fetch, Start, Land, Complete}
-use Rattle.redn_sched.specs.Lines.{is_no_space}
+use Rattle.redn_sched.specs.Lines.{is_not}
 use Rattle.redn_sched.specs.ScheduleText.{pair_text, action_text, IsAction, IsBad}
 use Rattle.redn_sched.proofs.Fields.{pair_split, behind_of, decimal_has_none}
 use Rattle.redn_sched.proofs.OneReading.{first_byte}
@@ -60,7 +60,7 @@ no_index : IsBad (codes "f 0")
 no_index =
     bad_fetch (codes "0") (λ q i small fits e.
     let wide : q < 2 ^ 64 = omega arith in
-    let none : [] ≡ 32 ∷ decimal i = behind_of (codes "0") (decimal q) (decimal i) (pair_split q i (codes "0") wide e) in
+    let none : [] ≡ 32 ∷ decimal i = behind_of 32 (codes "0") (decimal q) (decimal i) (pair_split q i (codes "0") wide e) in
     cc)
 
 pub a_leading_zero : IsBad (codes "s 01")
@@ -82,6 +82,6 @@ a_wide_chain =
 a_space_last : IsBad (codes "s 0 ")
 a_space_last =
     bad_start (codes "0 ") (λ q small e.
-    let none : list_all is_no_space (decimal q) ≡ true = decimal_has_none q (omega arith) in
-    let one = ap (list_all is_no_space) e in
+    let none : list_all (is_not 32) (decimal q) ≡ true = decimal_has_none q (omega arith) in
+    let one = ap (list_all (is_not 32)) e in
     cc)

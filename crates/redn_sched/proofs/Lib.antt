@@ -4,3 +4,4 @@ pub mod OneReading
 pub mod Replay
 pub mod BadLines
 mod Worked
+mod WorkedFair

@@ -28,7 +28,7 @@ same_pair : (q i r j : ℕ) → (q < 2 ^ 32) × (i < 2 ^ 64) → (r < 2 ^ 32) ×
 same_pair q i r j a b e =
     let wide : q < 2 ^ 64 = omega (arith, a.0) in
     let wide' : r < 2 ^ 64 = omega (arith, b.0) in
-    let same = same_split (pair_text q i) (decimal q) (decimal i) (decimal r) (decimal j) (pair_split q i _ wide refl) (pair_split r j _ wide' e) in
+    let same = same_split 32 (pair_text q i) (decimal q) (decimal i) (decimal r) (decimal j) (pair_split q i _ wide refl) (pair_split r j _ wide' e) in
     (decimal_injective q r wide wide' same.0, decimal_injective i j a.1 b.1 same.1)
 
 -- two actions whose numbers fit have two lines

@@ -37,8 +37,8 @@ lines_joined (line ∷ lines) last e f =
     let rest = flat_map (λ l. l ++ codes "\n") lines in
     ap lines_of (append_assoc (line ++ codes "\n") rest last ∙ append_assoc line (codes "\n") (rest ++ last)) ∙ after_line [] line (rest ++ last) (and_left (list_all is_no_newline line) _ e) ∙ ap (λ ls. line ∷ ls) (lines_joined lines last (and_right (list_all is_no_newline line) _ e) f)
 
-digit : (n : ℕ) → is_no_newline (48 + n) ≡ true
-digit n = grind (arith, nat_tests)
+digit : (n : ℕ) → n < 10 → is_no_newline (48 + n) ≡ true
+digit n small = grind (arith, nat_tests)
 
 number : (n : ℕ) → n < 2 ^ 64 → list_all is_no_newline (decimal n) ≡ true
 number n small = decimal_all is_no_newline digit n small

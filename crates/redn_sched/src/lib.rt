@@ -3,5 +3,5 @@
 mod line;
 mod text;
 
-pub use line::{Line, read_line};
+pub use line::{Line, read_line, read_small, split_field};
 pub use text::{Numbered, Schedule, read_schedule};

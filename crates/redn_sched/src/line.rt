@@ -1,7 +1,7 @@
 ghost use Rattle.std.specs.Prelude.{◌≡◌, ◌≢◌, ◌^◌, ◌<◌, ◌≤◌, ℕ, List, decimal, length, IfSome, IfNone};
 ghost use Rattle.std.specs.List.{prefix_len};
 ghost use Rattle.redn_sched.specs.ScheduleText.{pair_text, IsSkipped, IsAction, IsBad};
-ghost use Rattle.redn_sched.specs.Lines.{is_no_space, IsSplit, OnSkipped, IfAction, OnBad};
+ghost use Rattle.redn_sched.specs.Lines.{is_not, IsSplit, OnSkipped, IfAction, OnBad};
 
 use itoa::Buffer;
 use redn_words::Action;
@@ -35,9 +35,9 @@ fn read_number(digits: &[u8]) -> Option<u64>
     }
 }
 
-/// The number of a queue or of a chain.
+/// A number of 32 bits, as that of a queue or of a chain, that is written so.
 #[tactic(auto, using(std::proofs::lemmas::Fmt::decimal_injective))]
-fn read_small(digits: &[u8]) -> Option<u32>
+pub fn read_small(digits: &[u8]) -> Option<u32>
     ensures value { IfSome result (λ n. digits.now ≡ decimal n) }
     ensures none { IfNone result ((n : ℕ) → n < 2 ^ 32 → digits.now ≢ decimal n) }
 {
@@ -47,24 +47,24 @@ fn read_small(digits: &[u8]) -> Option<u32>
     }
 }
 
-/// What stands before the first space, and what behind it.
-fn split_field(text: &[u8]) -> Option<(&[u8], &[u8])>
-    ensures found { IfSome result (λ p. IsSplit text.now p.0.now p.1.now) }
-    ensures none { IfNone result ((front behind : List ℕ) → ¬ IsSplit text.now front behind) }
+/// What stands before the first separator, and what behind it, or none where it has no separator.
+pub fn split_field(text: &[u8], separator: u8) -> Option<(&[u8], &[u8])>
+    ensures found { IfSome result (λ p. IsSplit separator text.now p.0.now p.1.now) }
+    ensures none { IfNone result ((front behind : List ℕ) → ¬ IsSplit separator text.now front behind) }
 {
-    let (front, rest) = text.split_at(field_len(text));
-    let Some((_space, behind)) = rest.split_first() else {
+    let (front, rest) = text.split_at(field_len(text, separator));
+    let Some((_separator, behind)) = rest.split_first() else {
         return None;
     };
     Some((front, behind))
 }
 
-/// How many bytes stand before the first space.
-fn field_len(text: &[u8]) -> usize
-    ensures value { result ≡ prefix_len is_no_space text.now }
+/// How many bytes stand before the first separator.
+fn field_len(text: &[u8], separator: u8) -> usize
+    ensures value { result ≡ prefix_len (is_not separator) text.now }
     ensures within { result ≤ length text.now }
 {
-    text.iter().take_while(|b| **b != b' ').count()
+    text.iter().take_while(|b| **b != separator).count()
 }
 
 /// The number of a queue, a space and an index.
@@ -73,7 +73,7 @@ fn read_pair(text: &[u8]) -> Option<(u32, u64)>
     ensures none { IfNone result
         ((q i : ℕ) → q < 2 ^ 32 → i < 2 ^ 64 → text.now ≢ pair_text q i) }
 {
-    let Some((queue, index)) = split_field(text) else {
+    let Some((queue, index)) = split_field(text, b' ') else {
         return None;
     };
     let Some(queue) = read_small(queue) else {

@@ -2,7 +2,6 @@ use Rattle.std.proofs.Common.{◌≡◌, ◌≤◌, ◌+◌, ◌-◌, ◌^◌, L
 use Rattle.std.specs.Option.{option_map}
 use Rattle.std.proofs.lemmas.List.Elements.{All-map, All-weaker}
 use Rattle.redn_words.specs.declared.types.Region.{Region}
-use Rattle.redn_words.specs.declared.limits.TheConstants.{GREATEST_RING}
 use Rattle.redn_words.specs.declared.types.QueueRow.{QueueRow}
 use Rattle.redn_words.specs.States.{Chain, start, fresh_chain, fresh_queue}
 use Rattle.redn_image.specs.View.{image_view}
@@ -31,12 +30,6 @@ registered-requires-clause-ends c =
 
 pub registered-requires-clause-distinct : goal.registered-requires-clause-distinct
 registered-requires-clause-distinct c = keys_differ (image_view c.i.inside) c.i.invariant
-
-pub first_queues-requires : goal.first_queues-requires
-first_queues-requires c =
-    let inside = image_inside (image_view c.i.inside) c.i.invariant in
-    let rows = c.i.inside.queues.items in
-    rw c.deref-3.ensures.value (All-weaker (IsRing (length c.i.inside.memory.items)) (λ (r : QueueRow). r.slots ≤ GREATEST_RING) (λ r h. h.few) rows inside.queues)
 
 messages_of : List (Option (Vec ℕ Global)) → List (Option (List ℕ))
 messages_of kept = map (option_map (λ (v : Vec ℕ Global). v.items)) kept

@@ -1,0 +1,9 @@
+pub mod Pools
+pub mod Places
+pub mod Covers
+pub mod Windows
+pub mod InFlight
+pub mod Telling
+pub mod AheadView
+pub mod FlightsView
+pub mod QueueView

@@ -1,0 +1,64 @@
+-- Fair schedules of small images by hand, computed.
+use Rattle.std.proofs.Common.{◌≡◌, ℕ, true, [], ◌∷◌, ◌++◌, refl, replicate}
+use Rattle.std.specs.Prelude.{Some, None}
+use Rattle.std.specs.FinMap.{gets}
+use Rattle.redn_words.specs.declared.types.QueueRow.{QueueRow}
+use Rattle.redn_words.specs.declared.types.Receive.{Receive}
+use Rattle.redn_words.specs.declared.types.Action.TheVariants.{Deliver, Fetch, Start, Land, Complete}
+use Rattle.redn_words.specs.Words.{number, spelled}
+use Rattle.redn_words.specs.Requests.{decoded, encoded, opcode_named}
+use Rattle.redn_words.specs.Access.{access}
+use Rattle.redn_words.specs.Landings.{lands}
+use Rattle.redn_words.specs.States.{State, start}
+use Rattle.redn_words.specs.Steps.{possible, after, may_start, started, counter_of}
+use Rattle.redn_sched.specs.MadeSchedules.{cyclically, fair_from, fair}
+
+after_the_cursor : cyclically 3 (0 ∷ 2 ∷ 3 ∷ 5 ∷ []) ≡ 3 ∷ 5 ∷ 0 ∷ 2 ∷ []
+after_the_cursor = refl
+
+-- a queue of this chain with so many slots, which all spell a NOOP where memory is 0
+ring : ℕ → ℕ → ℕ → ℕ → QueueRow
+ring domain base slots limit = record { domain = domain; managed = true; base = base; slots = slots; limit = limit }
+
+no_message : Receive
+no_message = record { base = 0; len = 0 }
+
+-- chain 0 has a message of 2 bytes and no queue, chain 1 has a queue with one request
+message_and_queue : State
+message_and_queue = start [] (ring 1 0 1 1 ∷ []) (record { base = 64; len = 2 } ∷ no_message ∷ []) (replicate 66 0) (Some (7 ∷ 9 ∷ []) ∷ None ∷ [])
+
+chains_in_turn : fair 9 message_and_queue ≡ Deliver 0 ∷ Fetch 0 0 ∷ Start 0 ∷ Land 0 0 ∷ Complete 0 ∷ []
+unfolding ring no_message message_and_queue number spelled decoded encoded opcode_named access lands start possible after may_start started counter_of fair
+chains_in_turn = simp gets refl
+
+three_of_them : fair 3 message_and_queue ≡ Deliver 0 ∷ Fetch 0 0 ∷ Start 0 ∷ []
+unfolding ring no_message message_and_queue number spelled decoded encoded opcode_named access lands start possible after may_start started counter_of fair
+three_of_them = simp gets refl
+
+-- two chains with one queue each
+two_chains : State
+two_chains = start [] (ring 0 0 1 1 ∷ ring 1 0 1 1 ∷ []) (no_message ∷ no_message ∷ []) (replicate 64 0) (None ∷ None ∷ [])
+
+chains_alternate : fair 9 two_chains ≡ Fetch 0 0 ∷ Fetch 1 0 ∷ Start 0 ∷ Start 1 ∷ Land 0 0 ∷ Land 1 0 ∷ Complete 0 ∷ Complete 1 ∷ []
+unfolding ring no_message two_chains number spelled decoded encoded opcode_named access lands start possible after may_start started counter_of fair
+chains_alternate = simp gets refl
+
+-- One chain with two queues. The first is closed, and the first request of the second one opens it: the second one is kept as long as it has something to do.
+opened_by_the_second : State
+opened_by_the_second =
+    start [] (ring 0 0 1 0 ∷ ring 0 64 2 2 ∷ []) (no_message ∷ [])
+    (replicate 64 0 ++ encoded (record { op = 7; id = 0; lkey = 0; rkey = 0; local = 0; remote = 0; length = 0; first = 0; second = 1; flags = 0 }) ++ replicate 64 0) (None ∷ [])
+
+an_active_queue_is_kept : fair 3 opened_by_the_second ≡ Fetch 1 0 ∷ Start 1 ∷ Fetch 1 1 ∷ []
+unfolding ring no_message opened_by_the_second number spelled decoded encoded opcode_named access lands start possible after may_start started counter_of fair
+an_active_queue_is_kept = simp gets refl
+
+-- The second queue has nothing to do, and the cursor stands there: the first one follows.
+the_first_follows_the_last : fair_from 2 (start [] (ring 0 0 1 1 ∷ ring 0 64 1 0 ∷ []) (no_message ∷ []) (replicate 128 0) (None ∷ [])) (record { chain = 0; queues = 1 ∷ [] }) ≡ Fetch 0 0 ∷ Start 0 ∷ []
+unfolding ring no_message number spelled decoded encoded opcode_named access lands start possible after may_start started counter_of
+the_first_follows_the_last = simp gets refl
+
+-- an undefined request stops its queue, and nothing follows
+a_stopped_queue_ends : fair 9 (start [] (ring 0 0 1 1 ∷ []) (no_message ∷ []) (0 ∷ 9 ∷ replicate 62 0) (None ∷ [])) ≡ Fetch 0 0 ∷ Start 0 ∷ []
+unfolding ring no_message number spelled decoded encoded opcode_named access lands start possible after may_start started counter_of fair
+a_stopped_queue_ends = simp gets refl
