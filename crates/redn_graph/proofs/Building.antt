@@ -42,7 +42,7 @@ pub leaves_still : {a b : List Meaning} (exit : ℕ) (m : Meaning) → Extends a
 leaves_still exit m x h all y = h all (extends_then x y)
 
 -- a block that stays does the same
-block_stays : {old new : List Block} (all : List Meaning) (l : ℕ) → slice_get new l ≡ slice_get old l → BlockRuns all old l → BlockRuns all new l
+pub block_stays : {old new : List Block} (all : List Meaning) (l : ℕ) → slice_get new l ≡ slice_get old l → BlockRuns all old l → BlockRuns all new l
 block_stays all l same r = record { block = r.block; there = same ∙ r.there; runs = r.runs }
 
 pub own_meaning : (some : List Meaning) (own : Meaning) (all : List Meaning) (l : ℕ) → Extends (some ++ own ∷ []) all → l ≡ length some → meaning_at all l ≡ own
@@ -177,6 +177,16 @@ pub compiles_end : (blocks : List Block) (hidden exit : ℕ) (st : Kernel) (inst
 compiles_end blocks hidden exit st instrs end t none runs some far m near whole ignores leaves means =
     compiled_none blocks whole (λ all x. subst (λ (list : List Instr). Runs all end (reverse list) (doing st m) block_worth) (sym none) (runs all m))
 
+-- two parts, and a tail that stands before them
+pub compiled_two : {b0 b1 b2 : List Block} {some : List Meaning} {f0 f1 far : ℕ} {t0 t1 t : Tail} {m0 m1 m : Meaning} (s0 : Compiled b0 b1 some f0 t0 m0) (s1 : Compiled b1 b2 s0.table f1 t1 m1) → Means s1.table far t m → Compiled b0 b2 some far t m
+compiled_two s0 s1 means = compiled_then s0 (compiled_means s1 means)
+
+-- five parts, and a tail that stands before them
+compiled_five : {b0 b1 b2 b3 b4 b5 : List Block} {some : List Meaning} {f0 f1 f2 f3 f4 far : ℕ} {t0 t1 t2 t3 t4 t : Tail} {m0 m1 m2 m3 m4 m : Meaning}
+    (s0 : Compiled b0 b1 some f0 t0 m0) (s1 : Compiled b1 b2 s0.table f1 t1 m1) (s2 : Compiled b2 b3 s1.table f2 t2 m2) (s3 : Compiled b3 b4 s2.table f3 t3 m3) (s4 : Compiled b4 b5 s3.table f4 t4 m4) →
+    Means s4.table far t m → Compiled b0 b5 some far t m
+compiled_five s0 s1 s2 s3 s4 means = compiled_then s0 (compiled_then s1 (compiled_then s2 (compiled_then s3 (compiled_means s4 means))))
+
 -- two blocks between which a test chooses
 pub compiles_branch : {b0 b1 b2 b3 b4 b5 : List Block} {h0 h1 h2 : ℕ} (exit : ℕ) (wide : Bool) (a b : Word) (met unmet : List Kernel) (t : Tail) (next : ℕ) (one other : Tail) (yes_block no_block : ℕ) (instrs : Vec Instr Global) → h0 ≤ h1 → h0 ≤ h2 → instrs.items ≡ [] →
     Labels b0 b1 t next → Compiles b1 b2 h1 exit met (tail.To next) one → Compiles b2 b3 h2 exit unmet (tail.To next) other → Labels b3 b4 one yes_block → Labels b4 b5 other no_block →
@@ -185,16 +195,16 @@ compiles_branch exit wide a b met unmet t next one other yes_block no_block inst
     let m1 : Meaning = λ h. do_all met ++ m h in
     let m2 : Meaning = λ h. do_all unmet ++ m h in
     let s0 = l0 some far m whole means in
-    let s1 = c1 s0.table 0 m (omega arith) s0.whole (ignores_more le1 ignores) (leaves_still exit m s0.extends leaves) s0.means in
-    let s2 = c2 s1.table 0 m (omega arith) s1.whole (ignores_more le2 ignores) (leaves_still exit m (extends_then s0.extends s1.extends) leaves) (means_still 0 (tail.To next) m s1.extends s0.means) in
-    let s3 = l3 s2.table 0 m1 s2.whole (means_still 0 one m1 s2.extends s1.means) in
-    let s4 = l4 s3.table 0 m2 s3.whole (means_still 0 other m2 s3.extends s2.means) in
+    let s1 = c1 s0.table 0 m (omega arith) s0.whole (ignores_more le1 ignores) (leaves_still {a = some} {b = s0.table} exit m s0.extends leaves) s0.means in
+    let s2 = c2 s1.table 0 m (omega arith) s1.whole (ignores_more le2 ignores) (leaves_still {a = some} {b = s1.table} exit m (extends_then {a = some} {b = s0.table} {c = s1.table} s0.extends s1.extends) leaves) (means_still {a = s0.table} {b = s1.table} 0 (tail.To next) m s1.extends s0.means) in
+    let s3 = l3 s2.table 0 m1 s2.whole (means_still {a = s1.table} {b = s2.table} 0 one m1 s2.extends s1.means) in
+    let s4 = l4 s3.table 0 m2 s3.whole (means_still {a = s2.table} {b = s3.table} 0 other m2 s3.extends s2.means) in
     let st : Kernel = k.If wide a b met unmet in
     let end : End = test_end wide (cell_of a) (cell_of b) yes_block no_block in
     let chooses : Means s4.table far (tail.Open instrs end) (doing st m) =
-    λ all x. subst (λ (list : List Instr). Runs all end (reverse list) (doing st m) block_worth) (sym none) (branch_runs all wide a b met unmet m yes_block no_block (s3.means all (extends_then s4.extends x)) (s4.means all x))
+    λ all x. subst (λ (list : List Instr). Runs all end (reverse list) (doing st m) block_worth) (sym none) (branch_runs all wide a b met unmet m yes_block no_block (s3.means all (extends_then {a = s3.table} {b = s4.table} {c = all} s4.extends x)) (s4.means all x))
     in
-    compiled_then s0 (compiled_then s1 (compiled_then s2 (compiled_then s3 (compiled_means s4 chooses))))
+    compiled_five s0 s1 s2 s3 s4 chooses
 
 -- a block to which its own body leads back
 pub compiles_endless : {b0 b1 b2 b3 b4 : List Block} {h0 h1 : ℕ} (exit : ℕ) (body : List Kernel) (t : Tail) (out head : ℕ) (spare : Block) (first : Tail) → h0 ≤ h1 → b2 ≡ b1 ++ spare ∷ [] → head ≡ length b1 →
@@ -215,4 +225,4 @@ compiles_endless {b1 = b1} exit body t out head spare first le is at l0 c b some
     (λ all x h. leads_more (loop_again body (m h)) (leads_none (at_head all x h)))
     in
     compiled_bound s0 far (tail.To head) (doing (k.Loop body) m) spare head own is at d b
-    (λ all x h. leads_at_least near (leads_more (loop_begins body (m h)) (leads_none (at_head all (extends_then d.extends x) h))))
+    (λ all x h. leads_at_least near (leads_more (loop_begins body (m h)) (leads_none (at_head all (extends_then {a = table} {b = d.table} {c = all} d.extends x) h))))

@@ -147,7 +147,7 @@ compiles_counted {b1 = b1} {h0 = h0} {h1 = h1} exit counter n body t end after o
     in
     let st : Kernel = k.Repeat n body in
     compiled_bound s0 far after (doing st m) spare head own is at d b
-    (precedes d.table 0 far (doing st m) own (start_runs counter n some_rounds few body m keeps) (λ all x h. leads_none (ap (λ (f : Meaning). f h) (sym (at_head all (extends_then d.extends x))))))
+    (precedes d.table 0 far (doing st m) own (start_runs counter n some_rounds few body m keeps) (λ all x h. leads_none (ap (λ (f : Meaning). f h) (sym (at_head all (extends_then {a = table} {b = d.table} {c = all} d.extends x))))))
 
 -- a body that is never done
 pub compiles_never : {b0 b1 : List Block} (hidden exit : ℕ) (body : List Kernel) (t : Tail) (out : ℕ) → Labels b0 b1 t out → Compiles b0 b1 hidden exit (k.Repeat 0 body ∷ []) t (tail.To out)

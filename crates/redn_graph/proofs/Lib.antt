@@ -19,3 +19,14 @@ pub mod Lists
 pub mod Worked
 pub mod Quiet
 pub mod Equal
+pub mod Renumbering
+pub mod Finding
+pub mod Reaching
+pub mod Walking
+pub mod Jumping
+pub mod Passing
+pub mod Kept
+pub mod Stopping
+pub mod LeadingOn
+pub mod NoneIdle
+pub mod WorkedBlocks

@@ -1,15 +1,17 @@
 -- Statements of a list, the last one first.
-use Rattle.std.proofs.Common.{◌≡◌, ℕ, suc, ◌+◌, ◌-◌, ◌*◌, ◌<◌, ◌≤◌, List, [], ◌∷◌, length, drop, get_or, ap, ◌∙◌, subst, arith, drop-cons}
+use Rattle.std.proofs.Common.{◌≡◌, ℕ, suc, ◌+◌, ◌-◌, ◌*◌, ◌<◌, ◌≤◌, ◌&&◌, false, List, [], ◌∷◌, length, drop, get_or, ap, ◌∙◌, subst, arith, drop-cons}
 use Rattle.std.proofs.lemmas.List.Sums.{sum-map, sum_by-take-drop}
 use Rattle.std.proofs.lemmas.List.Elements.{All-cons, All-nil, All-head, All-tail, All-drop}
 use Rattle.std.specs.List.{All}
 use Rattle.redn_kernel.specs.declared.types.Kernel.{Kernel}
-use Rattle.redn_kernel.specs.Program.{weight_of, weight_of_all}
+use Rattle.redn_kernel.specs.Program.{weight_of, weight_of_all, idles_of, is_idle_body, breaks_idly}
 use Rattle.redn_kernel.specs.Tasks.{IsUsable}
 use Rattle.redn_graph.specs.declared.build.Builder.{Builder}
 use Rattle.redn_graph.specs.declared.build.Tail.{Tail}
 use Rattle.redn_graph.specs.Code.{Compiles}
 use Rattle.redn_graph.specs.Slots.{SlotsWithin, Sized}
+use Rattle.redn_graph.specs.Onward.{LeadsOn}
+use Rattle.redn_graph.proofs.LeadingOn.{leads_same, onward_then, onward_as, one_idle, one_breaks, idle_joined, breaks_joined}
 use Rattle.redn_graph.specs.Growth.{Grown, AllSound, IsSoundOne}
 use Rattle.redn_graph.specs.Fits.{Things, FitsTail, Fitted, IsWithin, IsWell, AllWell}
 use Rattle.redn_graph.proofs.Building.{compiles_none, compiles_list}
@@ -23,6 +25,7 @@ pub record Listed (old new : Builder) (exit : ℕ) (before : Tail) (body : List 
   pub grown : Grown old new (weight_of_all body)
   pub fits : (n : Things) → IsWithin n new → exit < n.blocks → AllWell n body → FitsTail n before → Fitted n old.blocks new.blocks × FitsTail n after
   pub size : Sized old.blocks new.blocks before after (weight_of_all body)
+  pub leads : exit < length old.blocks → LeadsOn old.blocks new.blocks exit before after (is_idle_body body) (breaks_idly body)
 
 pub listed_none : (b : Builder) (exit : ℕ) (t : Tail) → Listed b b exit t [] t
 listed_none b exit t = record {
@@ -31,6 +34,7 @@ listed_none b exit t = record {
   grown = record { more = omega arith; cells = omega arith; longer = omega arith; blocks = omega arith };
   fits = λ n within there all tail. (fitted_none n b.blocks, tail);
   size = λ size most some fits room small. (small, omega (arith, fits));
+  leads = λ there. leads_same b.blocks exit t false;
 }
 
 one_well : (n : Things) (statement : Kernel) → IsWell n statement → AllWell n (statement ∷ [])
@@ -58,11 +62,17 @@ listed_more {old = old} {mid = mid} {exit = exit} {before = before} {behind = be
           let p = x.size size most some fits (omega (arith, whole, room)) small in
           let q = y.size (size + 10 * weight_of_all rest) most (omega (arith, some)) p.1 (omega (arith, whole, alone, room)) p.0 in
           (q.0, omega (arith, whole, alone, q.1));
+      leads = λ there all among.
+          let p = x.leads there all among in
+          let q = y.leads (omega (arith, there, p.added.longer)) p.added.all_stop p.among in
+          let i = idles_of first in
+          onward_as (idle_joined i.is_idle (is_idle_body rest)) (breaks_joined i.is_break i.is_idle (breaks_idly rest)) (onward_then all there p q);
     }
 
 pub listed_one : {mid new : Builder} {exit : ℕ} {behind after : Tail} (first : Kernel) → Compiles mid.blocks new.blocks mid.hidden exit (first ∷ []) behind after → SlotsWithin mid.blocks new.blocks behind after (37 * weight_of first) → Grown mid new (weight_of first) →
-    ((n : Things) → IsWithin n new → exit < n.blocks → IsWell n first → FitsTail n behind → Fitted n mid.blocks new.blocks × FitsTail n after) → Sized mid.blocks new.blocks behind after (weight_of first) → Listed mid new exit behind (first ∷ []) after
-listed_one {mid = mid} {new = new} {behind = behind} {after = after} first compiles slots grown fits size =
+    ((n : Things) → IsWithin n new → exit < n.blocks → IsWell n first → FitsTail n behind → Fitted n mid.blocks new.blocks × FitsTail n after) → Sized mid.blocks new.blocks behind after (weight_of first) →
+    (exit < length mid.blocks → LeadsOn mid.blocks new.blocks exit behind after (idles_of first).is_idle (idles_of first).is_break) → Listed mid new exit behind (first ∷ []) after
+listed_one {mid = mid} {new = new} {behind = behind} {after = after} first compiles slots grown fits size leads =
     let alone : weight_of first ≡ weight_of_all (first ∷ []) = omega (arith, weight_first first []) in
     record {
       compiles = compiles;
@@ -70,6 +80,7 @@ listed_one {mid = mid} {new = new} {behind = behind} {after = after} first compi
       grown = subst (λ (w : ℕ). Grown mid new w) alone grown;
       fits = λ n within there all tail. fits n within there (All-head (IsWell n) first [] all) tail;
       size = subst (λ (w : ℕ). Sized mid.blocks new.blocks behind after w) alone size;
+      leads = λ there all among. let i = idles_of first in onward_as (one_idle i.is_idle) (one_breaks i.is_break (i.is_idle && false)) (leads there all among);
     }
 
 pub last_and_more : (body : List Kernel) (i : ℕ) (d : Kernel) → 0 < i → i ≤ length body → drop (i - 1) body ≡ get_or body (i - 1) d ∷ drop i body

@@ -19,7 +19,7 @@ use Rattle.redn_kernel.specs.CoreRun.{cell_of}
 use Rattle.redn_graph.specs.Searches.{probe_of, begin_at, skips, missed, Misses}
 use Rattle.redn_graph.proofs.Doing.{leads_none, does_shown, holds_word, front_does, doing}
 use Rattle.redn_graph.proofs.Looking.{look_does, load_does}
-use Rattle.redn_graph.proofs.Building.{extends_then, compiled_none, compiled_then, compiled_means}
+use Rattle.redn_graph.proofs.Building.{extends_then, compiled_none, compiled_then, compiled_two}
 use Rattle.redn_graph.proofs.Counting.{opens_runs}
 
 module _ (q : Sought) (m : Meaning) (keeps : (h : ℕ → ℕ) (v : ℕ) → m (with_hidden h 0 v) ≡ m h) where
@@ -109,7 +109,7 @@ misses_more {b0 = b0} {b2 = b2} q j n next miss l step is misses opens labels so
     let choose : Bool → Meaning = λ b h. if b then m h else lost h in
     let same : missed q (suc j) m ≡ lost = ap choose some_left in
     let steps : Means s0.table 0 step lost =
-    λ all x. opens_runs all 0 step _ _ lost opens (find_at q m keeps (suc j), 132, skip_runs q m keeps (suc j), probe_runs q m keeps all next miss j (means all (extends_then s0.extends x)) (s0.means all x))
+    λ all x. opens_runs all 0 step _ _ lost opens (find_at q m keeps (suc j), 132, skip_runs q m keeps (suc j), probe_runs q m keeps all next miss j (means all (extends_then {a = some} {b = s0.table} {c = all} s0.extends x)) (s0.means all x))
     in
     let s1 = labels s0.table 0 lost s0.whole steps in
     subst (λ (i : ℕ). Compiled b0 b2 some 0 (tail.To l) (missed q i m)) (sym is) (subst (λ (f : Meaning). Compiled b0 b2 some 0 (tail.To l) f) (sym same) (compiled_then s0 s1))
@@ -125,5 +125,5 @@ compiles_lookup {b0 = b0} {b2 = b2} hidden exit q a j n next miss t after is lab
     let s0 = labels some far m whole means in
     let s1 = misses s0.table m s0.whole keeps s0.means in
     let st : Kernel = k.Lookup q.to q.table a q.key (suc j) in
-    compiled_then s0 (compiled_means s1
-    (λ all x. opens_runs all far after _ _ (doing st m) opens (find_at q m keeps (suc j), 132, begin_runs q m keeps a (suc j), probe_runs q m keeps all next miss j (s0.means all (extends_then s1.extends x)) (s1.means all x)))))
+    compiled_two s0 s1
+    (λ all x. opens_runs all far after _ _ (doing st m) opens (find_at q m keeps (suc j), 132, begin_runs q m keeps a (suc j), probe_runs q m keeps all next miss j (s0.means all (extends_then {a = s0.table} {b = s1.table} {c = all} s1.extends x)) (s1.means all x))))

@@ -12,7 +12,8 @@ use Rattle.redn_graph.specs.declared.types.Graph.{Graph}
 use Rattle.redn_kernel.specs.CoreRun.{Cells}
 use Rattle.redn_graph.specs.Run.{GraphState, GraphTurn, Way, On, Taking, To, Out, Effect, graph_step, graph_turn, block_turn, instr_or_end, instr_or_end_cost, block_cost, step_cost, state_on, stays}
 use Rattle.redn_kernel.specs.Steps.{Steps, unchanged}
-use Rattle.redn_graph.specs.Follows.{IsMatched, Follows, turn_by, chain_start}
+use Rattle.redn_graph.specs.Finding.{FollowsAnywhere}
+use Rattle.redn_graph.specs.Follows.{IsMatched, turn_by, chain_start}
 use Rattle.redn_kernel.specs.Becomes.{chain_at}
 use Rattle.redn_graph.specs.Code.{Meaning, Leads, Runs, BlockRuns, turn_to, meaning_at, nowhere, block_worth, is_out}
 use Rattle.redn_graph.proofs.Idling.{idle_steps}
@@ -158,20 +159,23 @@ module _ (g : Graph) (all : List Meaning) (whole : length all ≡ length g.block
     matched = matched_by_ended x.ended refl
 
   -- the blocks follow the chain where its items lead to the entry's
-  pub follows : (chain : ChainInit) → Leads 0 (take_arguments 0 chain.args ++ do_all chain.body) (meaning_at all g.entry (λ _. 0)) → Follows chain g
+  pub follows : (chain : ChainInit) → Leads 0 (take_arguments 0 chain.args ++ do_all chain.body) (meaning_at all g.entry (λ _. 0)) → FollowsAnywhere chain g
   follows chain leads =
       let first : Cells = record { vars = chain.vars; hidden = λ _. 0 } in
       let at_start = items_at_start g.entry (found g.entry) in
       record {
-        here = here;
-        worth = worth;
-        vars = λ words x. refl;
-        ended = λ words x. refl;
-        starts = λ c words tables.
-            let after : Meaning → Turn = λ m. unchanged tables (chain_at words first false (m (λ _. 0))) in
-            let t : ChainState = chain_start chain words in
-            let r = idle_steps c words tables first leads.count (take_arguments 0 chain.args ++ do_all chain.body) (meaning_at all g.entry (λ _. 0)) leads.idles 0 (after (meaning_at all g.entry)) refl in
-            (r.count, subst (λ (m : Meaning). Steps c tables t r.count (after m)) (sym at_start) r.steps);
-        affords = omega (arith, worth_at_start g.entry (found g.entry));
-        matched = matched;
+        follows = record {
+          here = here;
+          worth = worth;
+          vars = λ words x. refl;
+          ended = λ words x. refl;
+          starts = λ c words tables.
+              let after : Meaning → Turn = λ m. unchanged tables (chain_at words first false (m (λ _. 0))) in
+              let t : ChainState = chain_start chain words in
+              let r = idle_steps c words tables first leads.count (take_arguments 0 chain.args ++ do_all chain.body) (meaning_at all g.entry (λ _. 0)) leads.idles 0 (after (meaning_at all g.entry)) refl in
+              (r.count, subst (λ (m : Meaning). Steps c tables t r.count (after m)) (sym at_start) r.steps);
+          affords = omega (arith, worth_at_start g.entry (found g.entry));
+          matched = matched;
+        };
+        affords = λ l s. omega (arith, worth_at_start l (found l));
       }

@@ -8,7 +8,7 @@ use Rattle.redn_kernel.specs.declared.types.Word.TheVariants.{Var, Num}
 use Rattle.redn_kernel.specs.declared.types.Kernel.{Kernel, out-Kernel, map-Kernel, every_here-Kernel}
 use Rattle.redn_kernel.specs.declared.types.Kernel.TheOpen.{Kernel-F}
 use Rattle.std.proofs.lemmas.List.Elements.{All-head, All-tail}
-use Rattle.redn_kernel.specs.Program.{weight_of, weight_of_all, weight_by, falls_through, IsSoundStatement}
+use Rattle.redn_kernel.specs.Program.{weight_of, weight_of_all, weight_by, falls_through, IsSoundStatement, is_idle_body}
 use Rattle.redn_kernel.specs.Tasks.{IsUsable, AllUsable}
 use Rattle.redn_kernel.proofs.Statements.{if_usable, loop_usable, repeat_usable}
 use Rattle.redn_kernel.proofs.Cases.{weight_out}
@@ -130,6 +130,14 @@ repeat_sound st n body one is same u = (u.0, subst (AllUsable u.0) (sym same) (r
 
 layer_of : (st : Kernel) (layer : Kernel-F Kernel) (u : IsSoundOne st) → out-Kernel st ≡ layer → IsSoundStatement u.1.tables u.0 layer
 layer_of st layer u e = subst (IsSoundStatement u.1.tables u.0) e (every_here-Kernel (IsSoundStatement u.1.tables u.0) st u.1.sound)
+
+pub loop_not_idle : (st : Kernel) (body one : List Kernel) → st ≡ k.Loop body → one ≡ body → IsSoundOne st → is_idle_body one ≡ false
+unfolding IsSoundStatement
+loop_not_idle st body one is same u = ap is_idle_body same ∙ (layer_of st (Kernel-F.Loop body) u (ap out-Kernel is ∙ k.outs-Loop body)).1
+
+pub repeat_some : (st : Kernel) (n : ℕ) (body : List Kernel) → st ≡ k.Repeat n body → IsSoundOne st → 1 ≤ n
+unfolding IsSoundStatement
+repeat_some st n body is u = (layer_of st (Kernel-F.Repeat n body) u (ap out-Kernel is ∙ k.outs-Repeat n body)).0
 
 pub probes_few : (st : Kernel) (x table : ℕ) (a key : Word) (n : ℕ) → st ≡ k.Lookup x table a key n → IsSoundOne st → (1 ≤ n) × (n ≤ 4)
 unfolding IsSoundStatement

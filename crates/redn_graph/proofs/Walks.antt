@@ -25,7 +25,7 @@ use Rattle.redn_graph.proofs.Doing.{leads_none, does_shown, does_silently, holds
 use Rattle.redn_graph.proofs.Ends.{jump_runs}
 use Rattle.redn_graph.proofs.Looking.{look_does, load_does, hidden_load_does}
 use Rattle.redn_kernel.proofs.Counters.{away, away_fresh, away_counts, away_less, same_away}
-use Rattle.redn_graph.proofs.Building.{extends_then, extends_one, own_meaning, compiled_then, compiled_means, compiled_bound}
+use Rattle.redn_graph.proofs.Building.{extends_then, extends_one, own_meaning, compiled_two, compiled_bound}
 use Rattle.redn_graph.proofs.Counting.{opens_runs}
 
 module _ (q : Sought) (n : ℕ) (some_nodes : 1 ≤ n) (few : n < 281474976710656) (m : Meaning) (keeps : (h : ℕ → ℕ) (v : ℕ) → m (with_hidden h 0 v) ≡ m h) (keeps_count : (h : ℕ → ℕ) (v : ℕ) → m (with_hidden h 1 v) ≡ m h) where
@@ -240,15 +240,15 @@ compiles_walk {b1 = b1} hidden exit q a n t onward turn probe after out head on 
       counted_at q n some_nodes few m keeps keeps_count,
       132,
       count_runs q n some_nodes few m keeps keeps_count,
-      test_runs q n some_nodes few m keeps keeps_count all out (out_leads all (extends_then d1.extends x)) on (d1.means all x),
+      test_runs q n some_nodes few m keeps keeps_count all out (out_leads all (extends_then {a = table} {b = d1.table} {c = all} d1.extends x)) on (d1.means all x),
     )
     in
     let d2 = l2 d1.table 0 (lost_at q n some_nodes few m keeps keeps_count) d1.whole counting in
     let probing : Means d2.table 1 probe own =
     λ all x. opens_runs all 1 probe _ _ own probe_opens
-    (probe_runs q n some_nodes few m keeps keeps_count all out (out_leads all (extends_then d1.extends (extends_then d2.extends x))) count (d2.means all x))
+    (probe_runs q n some_nodes few m keeps keeps_count all out (out_leads all (extends_then {a = table} {b = d1.table} {c = all} d1.extends (extends_then {a = d1.table} {b = d2.table} {c = all} d2.extends x))) count (d2.means all x))
     in
-    let d = compiled_then d1 (compiled_means d2 probing) in
+    let d = compiled_two d1 d2 probing in
     let st : Kernel = k.Walk q.to q.table a q.key n in
     compiled_bound s0 far after (doing st m) spare head own is at d b
     (λ all x. opens_runs all far after _ _ (doing st m) opens (
@@ -259,6 +259,6 @@ compiles_walk {b1 = b1} hidden exit q a n t onward turn probe after out head on 
         own,
         276,
         zero_runs q n some_nodes few m keeps keeps_count,
-        jump_runs all head 0 276 own (λ h. leads_none (ap (λ (f : Meaning). f h) (sym (at_head all (extends_then d.extends x))))) (omega arith) (omega arith),
+        jump_runs all head 0 276 own (λ h. leads_none (ap (λ (f : Meaning). f h) (sym (at_head all (extends_then {a = table} {b = d.table} {c = all} d.extends x))))) (omega arith) (omega arith),
       ),
     ))

@@ -9,3 +9,7 @@ pub mod Searches
 pub mod Along
 pub mod Fits
 pub mod Silence
+pub mod Reached
+pub mod Finding
+pub mod Idle
+pub mod Onward

@@ -1,7 +1,7 @@
 //! Blocks, from the last to the first.
 
-ghost use Rattle.std.specs.Prelude.{◌≡◌, ◌≢◌, ℕ, true, ◌+◌, ◌*◌, ◌^◌, ◌<◌, ◌≤◌, List, [], ◌∷◌, ◌++◌, length, map, slice_get, IfOk, OnOk, Some};
-ghost use Rattle.redn_kernel.specs.Program.{weight_of, weight_of_all};
+ghost use Rattle.std.specs.Prelude.{◌≡◌, ◌≢◌, ℕ, true, false, ◌+◌, ◌*◌, ◌^◌, ◌<◌, ◌≤◌, List, [], ◌∷◌, ◌++◌, length, map, slice_get, IfOk, OnOk, Some, None};
+ghost use Rattle.redn_kernel.specs.Program.{weight_of, weight_of_all, idles_of, is_idle_body, breaks_idly};
 ghost use Rattle.redn_kernel.specs.CoreRun.{cell_of};
 ghost use Rattle.redn_graph.specs.Words.{move_of, test_end, counts, counted};
 ghost use Rattle.redn_graph.specs.Statements.{is_plain, is_search, DoesStatement};
@@ -9,6 +9,8 @@ ghost use Rattle.redn_graph.specs.Code.{Compiles, Precedes, Labels, Closes, IsOp
 ghost use Rattle.redn_graph.specs.Searches.{Misses, probe_of, skips, begin_at, begin_walk, follows_next, at_last};
 ghost use Rattle.redn_graph.specs.Slots.{SlotsWithin, Sized, AreSmall, block_slots, all_slots, tail_slots, tail_size};
 ghost use Rattle.redn_graph.specs.Fits.{Things, IsCell, FitsInstr, FitsBlock, FitsTail, FitsSought, Fitted, IsWithin, IsWell, AllWell};
+ghost use Rattle.redn_graph.specs.Idle.{puts_back, idle_code, idle_at};
+ghost use Rattle.redn_graph.specs.Onward.{Works, tail_idle, LeadsOn};
 ghost use Rattle.redn_graph.specs.Growth.{IsRoomy, AllSound, IsSoundOne, Grown, Bound, IsFirst};
 
 use crate::types::{Block, End, Instr};
@@ -44,6 +46,7 @@ fn plain(statement: &Kernel) -> Instr
     requires { is_plain statement.now ≡ true }
     ensures does { DoesStatement statement.now result }
     ensures fits { (n : Things) → IsWell n statement.now → FitsInstr n result }
+    ensures works { puts_back result ≡ false }
 {
     match statement {
         Kernel::Move { to, from } => move_instr(*to, *from),
@@ -199,6 +202,7 @@ pub fn before(alloc: Global, instr: Instr, tail: Tail) -> Result<Tail, Memory>
     ensures slots { IfOk result (λ after. tail_slots after ≤ tail_slots tail + 19) }
     ensures fits { IfOk result (λ after. (n : Things) → FitsInstr n instr → FitsTail n tail → FitsTail n after) }
     ensures size { IfOk result (λ after. tail_size after ≤ tail_size tail + 10) }
+    ensures works { IfOk result (λ after. puts_back instr ≡ false → Works after) }
 {
     match tail {
         Tail::To(to) => {
@@ -226,6 +230,7 @@ pub fn close(alloc: Global, tail: Tail) -> Result<Block, Memory>
     ensures slots { IfOk result (λ block. block_slots block ≤ tail_slots tail + 14) }
     ensures fits { IfOk result (λ block. (n : Things) → 1 ≤ n.hidden → FitsTail n tail → FitsBlock n block) }
     ensures size { IfOk result (λ block. (most : ℕ) → 14 ≤ most → tail_size tail ≤ most → block_slots block ≤ most) }
+    ensures idle { IfOk result (λ block. idle_code block.instrs block.end ≡ tail_idle tail) }
 {
     match tail {
         Tail::To(to) => {
@@ -274,7 +279,7 @@ pub struct Builder {
 }
 
 impl Builder {
-    /// Block 0 leads back to itself for ever, which is what a chain does that has nothing to do.
+    /// Block 0 goes round for ever, as a chain does that has nothing to do.
     pub fn new(alloc: Global) -> Result<Builder, Memory>
         ensures { IfOk result (λ b. IsFirst b) }
     {
@@ -283,7 +288,12 @@ impl Builder {
             hidden: 2,
         };
         let first = builder.reserve(alloc)?;
-        builder.bind(alloc, first, Tail::To(first))?;
+        let round = open_with(
+            alloc,
+            Instr::Set { to: AT, value: 0 },
+            End::Jump { to: first },
+        )?;
+        builder.bind(alloc, first, round)?;
         Ok(builder)
     }
 
@@ -309,6 +319,7 @@ impl Builder {
         ensures hidden { self.new.hidden ≡ self.old.hidden }
         ensures fits { IfOk result (λ l. (n : Things) → length self.new.blocks ≤ n.blocks → FitsTail n tail → Fitted n self.old.blocks self.new.blocks × (l < n.blocks)) }
         ensures small { OnOk result ((most : ℕ) → tail_size tail ≤ most → AreSmall most self.old.blocks → AreSmall most self.new.blocks) }
+        ensures leads { IfOk result (λ l. (exit : ℕ) → LeadsOn self.old.blocks self.new.blocks exit tail (Tail.To l) true false) }
     {
         match tail {
             Tail::To(number) => Ok(number),
@@ -329,6 +340,7 @@ impl Builder {
         ensures slots { OnOk result (all_slots self.new.blocks ≤ all_slots self.old.blocks + 13) }
         ensures hidden { self.new.hidden ≡ self.old.hidden }
         ensures small { OnOk result ((most : ℕ) → 13 ≤ most → AreSmall most self.old.blocks → AreSmall most self.new.blocks) }
+        ensures works { OnOk result (idle_at self.new.blocks (length self.old.blocks) ≡ None) }
     {
         let instrs = Items::new(alloc);
         let words = Items::new(alloc);
@@ -345,6 +357,7 @@ impl Builder {
         ensures hidden { self.new.hidden ≡ self.old.hidden }
         ensures fits { OnOk result ((n : Things) → 1 ≤ n.hidden → FitsTail n tail → (b : _) → slice_get self.new.blocks head ≡ Some b → FitsBlock n b) }
         ensures small { OnOk result ((most : ℕ) → 14 ≤ most → tail_size tail ≤ most → AreSmall most self.old.blocks → AreSmall most self.new.blocks) }
+        ensures idle { OnOk result (idle_at self.new.blocks head ≡ tail_idle tail) }
     {
         let block = close(alloc, tail)?;
         self.blocks.set(head as usize, block);
@@ -361,6 +374,7 @@ impl Builder {
         ensures hidden { self.new.hidden ≡ self.old.hidden }
         ensures fits { IfOk result (λ l. (n : Things) → IsWithin n self.new → FitsSought n sought → next < n.blocks → Fitted n self.old.blocks self.new.blocks × (l < n.blocks)) }
         ensures small { OnOk result ((most : ℕ) → 44 ≤ most → AreSmall most self.old.blocks → AreSmall most self.new.blocks) }
+        ensures leads { IfOk result (λ l. (exit : ℕ) → LeadsOn self.old.blocks self.new.blocks exit (Tail.To next) (Tail.To l) true false) }
     {
         if count == 0 {
             return Ok(next);
@@ -388,6 +402,7 @@ impl Builder {
         ensures hidden { self.new.hidden ≡ self.old.hidden }
         ensures fits { IfOk result (λ after. (n : Things) → IsWithin n self.new → FitsSought n sought → IsCell n (cell_of offset) → FitsTail n tail → Fitted n self.old.blocks self.new.blocks × FitsTail n after) }
         ensures size { IfOk result (λ after. Sized self.old.blocks self.new.blocks tail after 2) }
+        ensures leads { IfOk result (λ after. (exit : ℕ) → LeadsOn self.old.blocks self.new.blocks exit tail after false false) }
     {
         let next = self.label(tail)?;
         let miss = self.misses(alloc, sought, probes - 1, next)?;
@@ -412,6 +427,7 @@ impl Builder {
         ensures hidden { self.new.hidden ≡ self.old.hidden }
         ensures fits { IfOk result (λ after. (n : Things) → IsWithin n self.new → FitsSought n sought → IsCell n (cell_of offset) → FitsTail n tail → Fitted n self.old.blocks self.new.blocks × FitsTail n after) }
         ensures size { IfOk result (λ after. Sized self.old.blocks self.new.blocks tail after 5) }
+        ensures leads { IfOk result (λ after. (exit : ℕ) → LeadsOn self.old.blocks self.new.blocks exit tail after false false) }
     {
         let out = self.label(tail)?;
         let head = self.reserve(alloc)?;
@@ -434,6 +450,7 @@ impl Builder {
         ensures grown { OnOk result (Grown self.old self.new (weight_of statement.now)) }
         ensures fits { IfOk result (λ after. (n : Things) → IsWithin n self.new → IsWell n statement.now → FitsTail n tail → Fitted n self.old.blocks self.new.blocks × FitsTail n after) }
         ensures size { IfOk result (λ after. Sized self.old.blocks self.new.blocks tail after (weight_of statement.now)) }
+        ensures leads { IfOk result (λ after. (exit : ℕ) → LeadsOn self.old.blocks self.new.blocks exit tail after false false) }
     {
         match statement {
             Kernel::Lookup {
@@ -484,6 +501,7 @@ impl Builder {
         ensures grown { OnOk result (Grown self.old self.new (weight_of_all body.now)) }
         ensures fits { IfOk result (λ after. (n : Things) → IsWithin n self.new → exit < n.blocks → AllWell n body.now → FitsTail n tail → Fitted n self.old.blocks self.new.blocks × FitsTail n after) }
         ensures size { IfOk result (λ after. Sized self.old.blocks self.new.blocks tail after (weight_of_all body.now)) }
+        ensures leads { IfOk result (λ after. exit < length self.old.blocks → LeadsOn self.old.blocks self.new.blocks exit tail after (is_idle_body body.now) (breaks_idly body.now)) }
     {
         let mut after = tail;
         for i in (0..body.len()).rev() {
@@ -507,6 +525,7 @@ impl Builder {
         ensures grown { OnOk result (Grown self.old self.new (weight_of statement.now)) }
         ensures fits { IfOk result (λ after. (n : Things) → IsWithin n self.new → exit < n.blocks → IsWell n statement.now → FitsTail n tail → Fitted n self.old.blocks self.new.blocks × FitsTail n after) }
         ensures size { IfOk result (λ after. Sized self.old.blocks self.new.blocks tail after (weight_of statement.now)) }
+        ensures leads { IfOk result (λ after. exit < length self.old.blocks → LeadsOn self.old.blocks self.new.blocks exit tail after (idles_of statement.now).is_idle (idles_of statement.now).is_break) }
     {
         match statement {
             Kernel::If {
@@ -558,6 +577,7 @@ impl Builder {
         ensures grown { OnOk result (Grown self.old self.new (1 + weight_of_all yes.now + weight_of_all no.now)) }
         ensures fits { IfOk result (λ after. (n : Things) → IsWithin n self.new → exit < n.blocks → IsCell n (cell_of left) → IsCell n (cell_of right) → AllWell n yes.now → AllWell n no.now → FitsTail n tail → Fitted n self.old.blocks self.new.blocks × FitsTail n after) }
         ensures size { IfOk result (λ after. Sized self.old.blocks self.new.blocks tail after (1 + weight_of_all yes.now + weight_of_all no.now)) }
+        ensures leads { IfOk result (λ after. exit < length self.old.blocks → LeadsOn self.old.blocks self.new.blocks exit tail after false false) }
     {
         let next = self.label(tail)?;
         let met = self.list(alloc, yes, Tail::To(next), exit)?;
@@ -576,6 +596,7 @@ impl Builder {
         ensures grown { OnOk result (Grown self.old self.new (1 + weight_of_all body.now)) }
         ensures fits { IfOk result (λ after. (n : Things) → IsWithin n self.new → AllWell n body.now → FitsTail n tail → Fitted n self.old.blocks self.new.blocks × FitsTail n after) }
         ensures size { IfOk result (λ after. Sized self.old.blocks self.new.blocks tail after (1 + weight_of_all body.now)) }
+        ensures leads { IfOk result (λ after. (exit : ℕ) → is_idle_body body.now ≡ false → LeadsOn self.old.blocks self.new.blocks exit tail after (breaks_idly body.now) false) }
     {
         let out = self.label(tail)?;
         let head = self.reserve(alloc)?;
@@ -599,6 +620,7 @@ impl Builder {
         ensures grown { OnOk result (Grown self.old self.new (2 + weight_of_all body.now)) }
         ensures fits { IfOk result (λ after. (n : Things) → IsWithin n self.new → AllWell n body.now → FitsTail n tail → Fitted n self.old.blocks self.new.blocks × FitsTail n after) }
         ensures size { IfOk result (λ after. Sized self.old.blocks self.new.blocks tail after (2 + weight_of_all body.now)) }
+        ensures leads { IfOk result (λ after. (exit : ℕ) → 1 ≤ count → LeadsOn self.old.blocks self.new.blocks exit tail after false false) }
     {
         let out = self.label(tail)?;
         if count == 0 {

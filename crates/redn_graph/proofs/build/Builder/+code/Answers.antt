@@ -26,6 +26,14 @@ use Rattle.std.proofs.Math.Seq.{drop-length}
 use Rattle.redn_graph.specs.Growth.{IsSoundOne}
 use Rattle.redn_graph.specs.Slots.{Sized}
 use Rattle.redn_graph.proofs.Lists.{Listed, listed_none, listed_one, listed_more, last_and_more, weight_at, sound_at}
+use Rattle.std.proofs.Common.{false, ◌+◌}
+use Rattle.redn_graph.specs.Fits.{Things, IsWithin, FitsTail}
+use Rattle.redn_kernel.specs.Program.{Idles, idles_of, is_idle_body, breaks_idly}
+use Rattle.redn_kernel.proofs.Cases.{idles_of_loop, idles_of_break}
+use Rattle.redn_graph.specs.Onward.{LeadsOn}
+use Rattle.redn_graph.proofs.Statements.{loop_not_idle, repeat_some}
+use Rattle.redn_graph.proofs.Stopping.{added_none, added_one, added_then}
+use Rattle.redn_graph.proofs.LeadingOn.{works_open, works_among, works_never, among_more, onward_works, onward_any, onward_as, break_leads, endless_leads, round_added, false_true}
 use Rattle.redn_graph.proofs.build.Builder.+code.Goals as goal
 
 pub branch-list-requires-2 : goal.branch-list-requires-2
@@ -375,7 +383,7 @@ list-loop-i-preserved t c =
     let loop = c.loop-i in
     let told = c.in_ok-after.ensures in
     let body = a.body.now in
-    let one = listed_one c.index-body-i.result told.compiles told.slots told.grown told.fits told.size in
+    let one = listed_one c.index-body-i.result told.compiles told.slots told.grown told.fits told.size told.leads in
     let all = listed_more c.index-body-i.result (drop loop.i body) loop.invariant one in
     let same = ap (λ (first : Kernel). first ∷ drop loop.i body) c.index-body-i.is ∙ sym (last_and_more body loop.i c.index-body-i.result c.loop-i-test.true loop.auto.i) in
     subst (λ (list : List Kernel). Listed a.self.now c.statement.new.self a.exit a.tail list c.in_ok-after.after) same all
@@ -408,3 +416,103 @@ statement-returns-in_default-clause-slots t c =
 pub statement-returns-in_default-clause-size : goal.statement-returns-in_default-clause-size
 statement-returns-in_default-clause-size t c =
     ok_still c.before-in_default.result _ _ (λ after more size most some fits room small. (small, omega (arith, more, fits, weight_positive c.args.statement.now))) c.before-in_default.ensures.size
+
+pub list-returns-clause-leads : goal.list-returns-clause-leads
+list-returns-clause-leads t c =
+    let a = c.args in
+    let loop = c.loop-i in
+    let first : loop.i ≡ 0 = omega (arith, c.loop-i-test.false) in
+    subst (λ (i : ℕ). a.exit < length a.self.now.blocks → LeadsOn a.self.now.blocks loop.self.blocks a.exit a.tail loop.after (is_idle_body (drop i a.body.now)) (breaks_idly (drop i a.body.now))) first loop.invariant.leads
+
+pub branch-returns-clause-leads : goal.branch-returns-clause-leads
+branch-returns-clause-leads t c there all among =
+    let a = c.args in
+    let x1 = c.in_ok-next.ensures.leads a.exit all among in
+    let x2 = c.in_ok-met.ensures.leads (omega (arith, there, x1.added.longer)) x1.added.all_stop x1.among in
+    let x3 = c.in_ok-unmet.ensures.leads (omega (arith, there, x1.added.longer, x2.added.longer)) x2.added.all_stop (omega (arith, x1.among, x2.added.longer)) in
+    let x4 = c.in_ok-yes.ensures.leads a.exit x3.added.all_stop (among_more _ _ c.in_ok-met.met x3.added.longer x2.among) in
+    let x5 = c.in_ok-no.ensures.leads a.exit x4.added.all_stop (among_more _ _ c.in_ok-unmet.unmet x4.added.longer x3.among) in
+    onward_works a.self.now.blocks c.label-3.new.self.blocks a.exit a.tail c.open.result false false (added_then x1.added (added_then x2.added (added_then x3.added (added_then x4.added x5.added)))) (works_open c.open.result [] c.test.result c.open.ensures refl)
+
+pub endless-returns-clause-leads : goal.endless-returns-clause-leads
+endless-returns-clause-leads t c exit not_idle all among =
+    let a = c.args in
+    let reserved = c.in_ok-head.ensures in
+    let bound = c.in_ok-bind.ensures.bound in
+    let x = c.in_ok-out.ensures.leads exit all among in
+    let y = added_one c.label.new.self.blocks c.reserve.new.self.blocks reserved.blocks.0 reserved.blocks.1 reserved.works x.added.all_stop in
+    let size : length c.reserve.new.self.blocks ≡ length c.label.new.self.blocks + 1 = omega (arith, ap length reserved.blocks.1, length-append c.label.new.self.blocks (reserved.blocks.0 ∷ [])) in
+    let f = c.in_ok-first.ensures.leads (omega (arith, x.among, y.longer)) y.all_stop (omega (arith, reserved.number, size)) in
+    endless_leads a.self.now.blocks c.label.new.self.blocks c.reserve.new.self.blocks c.list.new.self.blocks c.bind.new.self.blocks exit c.in_ok-out.out c.in_ok-head.head reserved.blocks.0 a.tail (To c.in_ok-head.head) c.in_ok-first.first (is_idle_body a.body.now) (breaks_idly a.body.now) x reserved.blocks.1 reserved.number reserved.works
+    f (λ idle r stops. false_true (sym not_idle ∙ idle)) bound c.in_ok-bind.ensures.idle (omega (arith, reserved.number, size, f.added.longer, bound.same_count))
+
+pub counted-returns-then-count-eq0-clause-leads : goal.counted-returns-then-count-eq0-clause-leads
+counted-returns-then-count-eq0-clause-leads t c exit some = absurd (omega (arith, some, c.if-count-eq0.true))
+
+pub counted-returns-clause-leads : goal.counted-returns-clause-leads
+counted-returns-clause-leads t c =
+    let a = c.args in
+    let reserved = c.in_ok-head.ensures in
+    let again = works_open c.in_ok-end.end _ _ c.in_ok-end.ensures refl in
+    ok_still c.before-2.result _ _
+    (λ after works exit some all among.
+    let x = c.in_ok-out.ensures.leads exit all among in
+    let y = added_one c.label.new.self.blocks c.reserve.new.self.blocks reserved.blocks.0 reserved.blocks.1 reserved.works x.added.all_stop in
+    let f = c.in_ok-first.ensures.leads (omega (arith, x.among, y.longer)) y.all_stop (works_among _ c.in_ok-end.end again) in
+    let added = round_added a.self.now.blocks c.label.new.self.blocks c.reserve.new.self.blocks c.list.new.self.blocks c.bind.new.self.blocks exit c.in_ok-out.out c.in_ok-head.head reserved.blocks.0 a.tail c.in_ok-end.end c.in_ok-first.first (is_idle_body a.body.now) (breaks_idly a.body.now) x reserved.blocks.1 reserved.number reserved.works
+    f (λ idle r stops. works_never c.reserve.new.self.blocks c.in_ok-end.end r again stops) c.in_ok-bind.ensures.bound c.in_ok-bind.ensures.idle
+    in
+    onward_works a.self.now.blocks c.bind.new.self.blocks exit a.tail after false false added (works refl))
+    c.before-2.ensures.works
+
+pub statement-returns-in-If-clause-leads : goal.statement-returns-in-If-clause-leads
+statement-returns-in-If-clause-leads t c = ok_still c.branch-self.result _ _ (λ after leads there all among. onward_any (leads there all among)) c.branch-self.ensures.leads
+
+pub statement-returns-in-Loop-clause-leads : goal.statement-returns-in-Loop-clause-leads
+statement-returns-in-Loop-clause-leads t c =
+    let a = c.args in
+    let i = c.in-Loop in
+    let same = c.as_slice-in-Loop.ensures in
+    let told = ap idles_of i.is ∙ idles_of_loop i.body in
+    ok_still c.endless.result _ _
+    (λ after leads there all among.
+    onward_as (λ e. ap (λ (x : Idles). x.is_idle) told ∙ sym (ap breaks_idly same) ∙ e) (λ e. false_true e) (leads a.exit (loop_not_idle a.statement.now i.body _ i.is same c.requires.sound) all among))
+    c.endless.ensures.leads
+
+pub statement-returns-in-Repeat-clause-leads : goal.statement-returns-in-Repeat-clause-leads
+statement-returns-in-Repeat-clause-leads t c =
+    let a = c.args in
+    let i = c.in-Repeat in
+    ok_still c.counted.result _ _ (λ after leads there all among. onward_any (leads a.exit (repeat_some a.statement.now i.count i.body i.is c.requires.sound) all among)) c.counted.ensures.leads
+
+pub statement-returns-in-Break-clause-leads : goal.statement-returns-in-Break-clause-leads
+statement-returns-in-Break-clause-leads t c there =
+    let a = c.args in
+    let told = ap idles_of c.in-Break.is ∙ idles_of_break in
+    break_leads a.self.now.blocks a.exit a.tail (idles_of a.statement.now).is_idle (idles_of a.statement.now).is_break (ap (λ (x : Idles). x.is_break) told) there
+
+pub statement-returns-in_ok-words-in-Reply-clause-leads :
+    goal.statement-returns-in_ok-words-in-Reply-clause-leads
+statement-returns-in_ok-words-in-Reply-clause-leads t c there all among =
+    let a = c.args in
+    onward_works a.self.now.blocks a.self.now.blocks a.exit a.tail c.open.result _ _ (added_none a.self.now.blocks all) (works_open c.open.result [] _ c.open.ensures refl)
+
+pub statement-returns-in-Lookup-clause-leads : goal.statement-returns-in-Lookup-clause-leads
+statement-returns-in-Lookup-clause-leads t c = ok_still c.search.result _ _ (λ after leads there all among. onward_any (leads c.args.exit all among)) c.search.ensures.leads
+
+pub statement-returns-in-Walk-clause-leads : goal.statement-returns-in-Walk-clause-leads
+statement-returns-in-Walk-clause-leads t c = ok_still c.search-in-Walk.result _ _ (λ after leads there all among. onward_any (leads c.args.exit all among)) c.search-in-Walk.ensures.leads
+
+pub statement-returns-in_default-clause-leads : goal.statement-returns-in_default-clause-leads
+statement-returns-in_default-clause-leads t c =
+    let a = c.args in
+    ok_still c.before-in_default.result _ _
+    (λ after works there all among. onward_works a.self.now.blocks a.self.now.blocks a.exit a.tail after _ _ (added_none a.self.now.blocks all) (works c.plain.ensures.works))
+    c.before-in_default.ensures.works
+
+pub list-returns-clause-fits : goal.list-returns-clause-fits
+list-returns-clause-fits t c =
+    let a = c.args in
+    let loop = c.loop-i in
+    let first : loop.i ≡ 0 = omega (arith, c.loop-i-test.false) in
+    subst (λ (i : ℕ). (n : Things) → IsWithin n loop.self → a.exit < n.blocks → AllWell n (drop i a.body.now) → FitsTail n a.tail → Fitted n a.self.now.blocks loop.self.blocks × FitsTail n loop.after) first loop.invariant.fits

@@ -1,0 +1,195 @@
+-- What blocks cost, take and name, where they lead, and which of them can be reached, computed.
+use Rattle.std.proofs.Common.{◌≡◌, ℕ, zero, suc, ◌+◌, inl, inr, true, List, [], ◌∷◌, ◌++◌, subst, Some, None, refl, replicate, arith}
+use Rattle.std.proofs.lemmas.List.Elements.{All-cons, All-nil}
+use Rattle.redn_words.specs.declared.types.Obs.TheVariants as shows
+use Rattle.redn_kernel.specs.declared.types.Word.TheVariants as word
+use Rattle.redn_kernel.specs.declared.types.Cell.TheVariants.{Var, Hidden, Num}
+use Rattle.redn_kernel.specs.declared.types.Kernel.{Kernel, out-Kernel}
+use Rattle.redn_kernel.specs.declared.types.Kernel.TheVariants as s
+use Rattle.redn_kernel.specs.declared.types.Kernel.TheBlock.{shown-the_row-Kernel-0}
+use denote.Hole.Carrier as carrier
+use Rattle.redn_kernel.specs.declared.types.ChainInit.{ChainInit}
+use Rattle.redn_kernel.specs.Source.{AgainLoop, Find, do_all, item_does, statement_does}
+use Rattle.redn_graph.specs.declared.types.Instr.{Instr}
+use Rattle.redn_graph.specs.declared.types.Instr.TheVariants as i
+use Rattle.redn_graph.specs.declared.types.End.TheVariants as e
+use Rattle.redn_graph.specs.declared.types.Block.{Block}
+use Rattle.redn_graph.specs.declared.types.Graph.{Graph}
+use Rattle.redn_graph.specs.declared.build.Sought.{Sought}
+use Rattle.redn_graph.specs.Run.{graph_step, graph_start, step_cost, instr_does, end_does, instr_cost, end_cost}
+use Rattle.redn_graph.specs.Along.{state_along, cost_along}
+use Rattle.redn_graph.specs.Follows.{IsMatched, chain_start}
+use Rattle.redn_graph.specs.Code.{Leads}
+use Rattle.redn_graph.specs.Fits.{Things, IsCell, FitsInstr, FitsEnd, FitsBlock, FitsGraph, things_of}
+use Rattle.redn_graph.specs.Growth.{IsRoomy}
+use Rattle.redn_graph.specs.Searches.{probe_of, missed}
+use Rattle.redn_graph.specs.Silence.{Seen, chain_seen, graph_seen}
+use Rattle.redn_graph.specs.Slots.{block_slots, all_slots}
+use Rattle.redn_graph.specs.Reached.{CanGoTo, LeadsTo, IsPath, EachReached, renumbered}
+use Rattle.redn_graph.specs.Finding.{unseen_slots}
+use Rattle.redn_graph.specs.Idle.{idle_code, idle_at, NoneIdle, jumps, past_idle, passed}
+use Rattle.redn_graph.specs.Onward.{Stops}
+use Rattle.redn_graph.proofs.Worked.{block, graph}
+
+-- x += 3 twice, counted by hidden cell 2, and a reply
+abbrev first : Block
+first = block (i.Set (Hidden 2) 0 ∷ []) (e.Jump 1)
+
+abbrev body : Block
+body = block (i.Add (Var 0) (Num 3) ∷ i.Add (Hidden 2) (Num 1) ∷ []) (e.Test48 (Hidden 2) (Num 2) 2 1)
+
+abbrev last : Block
+last = block [] (e.Reply (Var 0 ∷ []))
+
+abbrev twice : Graph
+twice = graph (first ∷ body ∷ last ∷ [])
+
+abbrev chain : ChainInit
+chain = record { args = 0; vars = 0 ∷ []; body = s.Repeat 2 (s.Add 0 (word.Num 3) ∷ []) ∷ s.Reply (word.Var 0 ∷ []) ∷ [] }
+
+-- slots of a block, and of all
+slots_of_the_body : block_slots body ≡ 32
+unfolding block_slots
+slots_of_the_body = refl
+
+slots_of_all : all_slots twice.blocks ≡ 59
+unfolding all_slots block_slots
+slots_of_all = refl
+
+-- the whole run costs 16 + 28, twice 16 + 16 + 72, and 48
+cost_of_the_run : cost_along 0 [] twice (replicate 9 []) (graph_start twice (0 ∷ [])) ≡ 300
+unfolding graph_step step_cost instr_does end_does instr_cost end_cost
+cost_of_the_run = refl
+
+the_run_ends : (state_along 0 [] twice (replicate 9 []) (graph_start twice (0 ∷ []))).ended ≡ true
+unfolding graph_step instr_does end_does
+the_run_ends = refl
+
+-- what is seen of them, and of the chain, which takes fewer steps
+abbrev seen : ℕ → ℕ → Seen
+seen x v = record { tables = []; event = shows.Set 0 x v }
+
+what_is_seen : (graph_seen 0 [] twice (replicate 9 []) (graph_start twice (0 ∷ [])) ≡ seen 0 3 ∷ seen 0 6 ∷ (record { tables = []; event = shows.Reply 0 1 (6 ∷ 0 ∷ 0 ∷ 0 ∷ 0 ∷ 0 ∷ 0 ∷ 0 ∷ []) }) ∷ [])
+    × (chain_seen 0 (replicate 6 []) (chain_start chain []) ≡ graph_seen 0 [] twice (replicate 9 []) (graph_start twice (0 ∷ [])))
+unfolding graph_step instr_does end_does item_does statement_does out-Kernel carrier.out shown-the_row-Kernel-0 carrier.shown carrier.hidden
+what_is_seen = (refl, refl)
+
+-- all that the blocks name is there
+abbrev things : Things
+things = things_of [] chain twice
+
+the_blocks_fit : FitsGraph [] chain twice
+the_blocks_fit = record {
+  entry = omega arith;
+  each =
+      All-cons (FitsBlock things) first (body ∷ last ∷ []) (record {
+        instrs_fit = All-cons (FitsInstr things) (i.Set (Hidden 2) 0) [] (omega arith) (All-nil (FitsInstr things));
+        end_fits = omega arith;
+        full = omega arith;
+      })
+      (All-cons (FitsBlock things) body (last ∷ []) (record {
+        instrs_fit = All-cons (FitsInstr things) (i.Add (Var 0) (Num 3)) (i.Add (Hidden 2) (Num 1) ∷ []) (omega arith, tt) (All-cons (FitsInstr things) (i.Add (Hidden 2) (Num 1)) [] (omega arith, tt) (All-nil (FitsInstr things)));
+        end_fits = (omega arith, tt, omega arith, omega arith);
+        full = tt;
+      })
+      (All-cons (FitsBlock things) last [] (record {
+        instrs_fit = All-nil (FitsInstr things);
+        end_fits = (All-cons (IsCell things) (Var 0) [] (omega arith) (All-nil (IsCell things)), omega arith, omega arith);
+        full = tt;
+      })
+      (All-nil (FitsBlock things))));
+}
+
+an_empty_block_does_not : FitsBlock things (block [] (e.Jump 0)) → ⊥
+an_empty_block_does_not fits = omega (arith, fits.full)
+
+a_fourth_block_is_not_there : FitsEnd things (e.Jump 3) → ⊥
+a_fourth_block_is_not_there fits = omega (arith, fits)
+
+-- each of them can be reached
+to_the_body : LeadsTo twice.blocks 0 1
+to_the_body = record { block = first; there = refl; target = refl }
+
+to_the_end : LeadsTo twice.blocks 1 2
+to_the_end = record { block = body; there = refl; target = inl refl }
+
+each_is_reached : EachReached twice
+each_is_reached zero lt = ([], refl)
+each_is_reached (suc zero) lt = (1 ∷ [], (to_the_body, refl))
+each_is_reached (suc (suc zero)) lt = (1 ∷ 2 ∷ [], (to_the_body, (to_the_end, refl)))
+each_is_reached (suc (suc (suc k))) lt = absurd (omega (arith, lt))
+
+-- one to which nothing leads can't
+abbrev with_another : List Block
+with_another = last ∷ last ∷ []
+
+some_same : {b d : Block} → Some b ≡ Some d → b ≡ d
+some_same e = cc
+
+no_path : (path : List ℕ) → IsPath with_another 0 path 1 → ⊥
+no_path [] e = omega (arith, e)
+no_path (m ∷ path) (edge, rest) = subst (λ (b : Block). CanGoTo b.end m → ⊥) (some_same edge.there) (λ none. none) edge.target
+
+-- targets under other numbers
+other_numbers : renumbered (λ l. l + 5) (e.Test64 (Var 0) (Num 7) 2 0) ≡ e.Test64 (Var 0) (Num 7) 7 5
+other_numbers = refl
+
+-- two blocks that do nothing, before one that replies
+abbrev puts_back : List Instr
+puts_back = i.Move (Hidden 0) (Hidden 0) ∷ []
+
+abbrev idle_ones : List Block
+idle_ones = block puts_back (e.Jump 2) ∷ last ∷ block puts_back (e.Jump 1) ∷ []
+
+which_are_idle : (idle_at idle_ones 0 ≡ Some 2) × (idle_at idle_ones 1 ≡ None) × (idle_at idle_ones 2 ≡ Some 1)
+which_are_idle = (refl, refl, refl)
+
+past_both : (past_idle idle_ones 0 ≡ 1) × (jumps idle_ones 1 0 ≡ 2)
+past_both = (refl, refl)
+
+the_entry_leads_past_them : (passed (graph idle_ones)).entry ≡ 1
+the_entry_leads_past_them = refl
+
+they_stop_at_the_reply : Stops idle_ones 0 1
+they_stop_at_the_reply = record { count = 2; leads = refl; works = refl }
+
+-- another cell's word, a variable and a test are no idle code
+these_do_something : (idle_code (i.Move (Hidden 0) (Hidden 1) ∷ []) (e.Jump 1) ≡ None) × (idle_code (i.Move (Var 0) (Var 0) ∷ []) (e.Jump 1) ≡ None) × (idle_code puts_back (e.Test48 (Num 0) (Num 0) 1 1) ≡ None)
+these_do_something = (refl, refl, refl)
+
+none_of_twice_is_idle : NoneIdle twice.blocks
+none_of_twice_is_idle =
+    let does : Block → Type 0 = λ b. idle_code b.instrs b.end ≡ None in
+    All-cons does first (body ∷ last ∷ []) refl (All-cons does body (last ∷ []) refl (All-cons does last [] refl (All-nil does)))
+
+-- slots of blocks that weren't found: the second has no number yet
+slots_still_to_come : unseen_slots 3 (0 ∷ 3 ∷ 1 ∷ []) twice.blocks ≡ 32
+unfolding block_slots
+slots_still_to_come = refl
+
+-- a block leads to one step of the chain, which pays for it
+abbrev replies_1 : Graph
+replies_1 = graph (block [] (e.Reply (Num 1 ∷ [])) ∷ [])
+
+a_reply_is_matched : IsMatched 0 [] replies_1 (λ x. let t : _ = record (chain_start (record { args = 0; vars = []; body = s.Reply (word.Num 1 ∷ []) ∷ [] }) []) { vars = x.cells.vars; ended = x.ended } in t) (λ x. 48) [] (graph_start replies_1 [])
+unfolding graph_step step_cost end_does end_cost item_does statement_does out-Kernel carrier.out shown-the_row-Kernel-0 carrier.shown carrier.hidden
+a_reply_is_matched = record { count = 1; steps = (refl, inr (refl, refl)); within = omega arith; paid = omega arith }
+
+-- a loop goes round by a step that looks at nothing
+round_a_loop : (rest : List Kernel) → Leads 1 (AgainLoop rest ∷ []) (do_all rest ++ AgainLoop rest ∷ [])
+unfolding item_does
+round_a_loop rest = record { count = 1; enough = omega arith; idles = (do_all rest ++ AgainLoop rest ∷ [], λ c tables t. refl, refl) }
+
+-- the next bucket, 16 bytes behind
+abbrev sought : Sought
+sought = record { to = 0; table = 0; key = word.Num 7 }
+
+the_next_bucket : (missed sought 2 (λ h. []) (λ k. 8) ≡ Find 0 0 24 (word.Num 7) 2 ∷ []) × (missed sought 0 (λ h. []) (λ k. 8) ≡ [])
+the_next_bucket = (refl, refl)
+
+a_probe : probe_of sought 3 4 ≡ e.Probe (Var 0) 0 (Hidden 0) (Num 7) 3 4
+a_probe = refl
+
+-- the greatest chain has room
+room_for_the_greatest : IsRoomy (record { blocks = first ∷ []; hidden = 2 }) 4096
+room_for_the_greatest = record { searches = omega arith; cells = omega arith; blocks = omega arith }
