@@ -1,0 +1,23 @@
+pub mod Flats
+pub mod Rings
+pub mod Pieces
+pub mod Opcodes
+pub mod FieldLists
+pub mod Cuts
+pub mod Listed
+pub mod OneValue
+pub mod Steps
+pub mod Going
+pub mod Slots
+pub mod Words
+pub mod Standing
+pub mod FirstFaults
+pub mod Opening
+pub mod OneOutcome
+mod Worked
+pub mod Written
+pub mod Memories
+pub mod WrittenWords
+pub mod ReadBack
+pub mod Whole
+pub mod Images

@@ -1,0 +1,19 @@
+use Rattle.std.proofs.Common.{◌≡◌, ℕ, List, length, map, sym, ap, ◌∙◌, subst}
+use Rattle.redn_words.specs.declared.types.QueueRow.{QueueRow}
+use Rattle.redn_image.specs.Rules.{Image, numbers_of, queue_numbers}
+use Rattle.redn_disasm.specs.Assembly.{Filled, all_places}
+use Rattle.redn_disasm.specs.Going.{Refuses}
+use Rattle.redn_disasm.proofs.Rings.{are_rings}
+use Rattle.redn_disasm.proofs.assembler.fill.Goals as goal
+
+pub read_memory-requires-clause-rings : goal.read_memory-requires-clause-rings
+read_memory-requires-clause-rings c = rw (c.deref.ensures.value, c.deref_mut.ensures.value) (are_rings _ c.image.invariant)
+
+pub returns-in-Err-clause-refused : goal.returns-in-Err-clause-refused
+returns-in-Err-clause-refused c =
+    let image = c.args.image in
+    let queues : c.deref.result.now ≡ image.queues = c.deref.ensures.value ∙ ap (λ (i : Image). i.queues) c.image.view_is in
+    let memory : c.deref_mut.result.now ≡ image.memory = c.deref_mut.ensures.value ∙ ap (λ (i : Image). i.memory) c.image.view_is in
+    let n = numbers_of image in
+    let refused = c.in-Err.ensures.refused n (sym (ap length memory)) in
+    subst (λ (m : List ℕ). Refuses c.args.first (Filled n (all_places 0 (map queue_numbers image.queues)) m) c.args.text.now c.in-Err.fault) memory (subst (λ (qs : List QueueRow). Refuses c.args.first (Filled n (all_places 0 (map queue_numbers qs)) c.deref_mut.result.now) c.args.text.now c.in-Err.fault) queues refused)

@@ -1,0 +1,6 @@
+use Rattle.std.proofs.Common.{◌≡◌, ◌++◌, take}
+use Rattle.redn_disasm.specs.Listing.{flat_from, slots_text}
+use Rattle.redn_disasm.proofs.write.put_rings.Given as goal
+
+abbrev pub invariant-loop-k : goal.invariant-loop-k
+invariant-loop-k l = l.out.items ≡ l.initial.out.items ++ flat_from (slots_text l.memory) 0 (take l.k l.rows)

@@ -1,0 +1,9 @@
+//! Laws of listings. A call of one does nothing.
+
+ghost use Rattle.redn_disasm.specs.Laws.{OneMeaning};
+
+/// A text is the listing of one image, or has one first line that isn't the next one possible, or
+/// rows that break one rule first.
+pub fn a_text_has_one_meaning()
+    ensures { OneMeaning }
+{}
