@@ -5,8 +5,6 @@ mod builder;
 mod drafts;
 mod footprints;
 mod laws;
-#[cfg(test)]
-mod tests;
 mod types;
 
 pub use builder::RingBuilder;

@@ -1,11 +1,17 @@
-pub mod Worked
-pub mod SixItems
+pub mod MessageTexts
+pub mod FirstItems
 pub mod TokenPlaces
 pub mod SourceFaults
 pub mod RunLemmas
 pub mod Printable
-pub mod Planning
-pub mod Opens
-pub mod Answered
-pub mod Checking
+pub mod FirstReason
+pub mod Contents
+pub mod Found
+pub mod MisfitFaults
+pub mod MessageWork
+pub mod ImageRuns
+pub mod Ending
+pub mod Plans
 pub mod OneReason
+pub mod ListingLines
+mod Worked

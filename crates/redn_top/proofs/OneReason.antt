@@ -1,426 +1,242 @@
--- Where the store tells what it holds, a command has one reason to end as it does.
-use Rattle.std.proofs.Common.{◌≡◌, ◌⊎◌, ℕ, List, ◌∷◌, ◌++◌, length, refl, sym, ap, subst, ◌∙◌, inl, inr, arith}
-use Rattle.std.specs.Prelude.{codes, Option, Some, None}
+-- Words mean one command, and what it finds gives one reason.
+use Rattle.std.proofs.Common.{◌≡◌, ℕ, List, [], ◌∷◌, map, inl, inr, refl, sym, ap, subst, ◌∙◌}
+use Rattle.std.specs.Prelude.{All, Option, Some}
+use Rattle.std.proofs.lemmas.List.Elements.{All-head, All-tail}
 use Rattle.redn_outside.specs.Files.{Files}
-use Rattle.redn_syntax.specs.declared.tree.File.{File}
-use Rattle.redn_kernel.specs.declared.types.Program.{Program}
+use Rattle.redn_outside.specs.Seen.{StoreSeen, SinkSeen}
+use Rattle.redn_image.specs.Rules.{Image}
 use Rattle.redn_sched.specs.declared.text.Numbered.{Numbered}
-use Rattle.redn_sched.specs.ScheduleText.{lines_of}
-use Rattle.redn_sched.proofs.OneReading.{one_reading}
-use Rattle.redn_check.specs.Numbering.{program_of}
-use Rattle.redn_top.specs.declared.status.TextFault.{TextFault}
+use Rattle.redn_top.specs.declared.limits.TheConstants.{FILE_LIMIT, IMAGE_LIMIT, LISTING_LIMIT, SCHEDULE_LIMIT}
 use Rattle.redn_top.specs.declared.status.Status.{Status}
-use Rattle.redn_top.specs.declared.status.Status.TheVariants.{Done, ReadFailed, Missing, WriteFailed, Long, Text, Program as ProgramRefused, Memory, Step, NotBuilt}
-use Rattle.redn_top.specs.StatusText.{code_of, OnReadFailed, OnWriteFailed}
-use Rattle.redn_top.specs.Words.{Go, IsGo, IsCheck}
-use Rattle.redn_top.specs.Sources.{Means, TextRefused, RuleBroken}
-use Rattle.redn_top.specs.Answers.{Finds, IsHeld, IsLong, CheckRefused, Checks, Plans, LacksPart, OtherShape, BadMessage, BadLine, Reading, CanRun, LacksFile, NoSource, NoSchedule, HasLongFile, LongSource, LongSchedule, GoRefused, Written, AnswersCheck, AnswersGo, AnswersOther, Answers, OfCheck, OfGo, OfOther, Demands, RefusedCheck, GoodCheck, RefusedGo, NoCommand, IsRun, IsRunOrWant, IfSpoken, Grew}
-use Rattle.redn_top.specs.declared.limits.TheConstants.{FILE_LIMIT, SCHEDULE_LIMIT}
+use Rattle.redn_top.specs.declared.status.Status.TheVariants.{Done, ReadFailed, Missing, WriteFailed, Long, Text, Program as ProgramRefused, Image as ImageRefused, Memory, Step, Message, NotBuilt}
+use Rattle.redn_top.specs.StatusText.{code_of}
+use Rattle.redn_top.specs.Words.{Command, Check, Compile, Run, Go, Disasm, Assemble, RunWords, MessageWord, HasSmallChain, IsCommand, IsRun, message_text, run_texts}
+use Rattle.redn_top.specs.Reasons.{Input, IsInput, Reasons, Nil, Or, also, NoneHolds, First, missing, too_long, no_tree, no_program, other_shape, no_image, wrong_line, broken_rows, bad_line, read_reasons, source_reasons, program_reasons, image_reasons, line_reasons, listing_reasons, two_reads, reasons}
+use Rattle.redn_top.specs.Answers.{Written, RunsImage, BadMessages, ToEnd, Stops, Finishes, Answered, Ends, IfSpoken, IsRunEnd, IsFinish, IsFinishOrWant, NoneFailed}
+use Rattle.redn_top.proofs.MessageTexts.{one_message}
 
-go_with : List ℕ → List ℕ → List ℕ → List ℕ → Go
-go_with file image schedule hex = record { file = file; image = image; schedule = schedule; hex = hex }
+-- ---- words
 
-same_go : (a b c d e f g h : List ℕ) → a ≡ e → b ≡ f → c ≡ g → d ≡ h → go_with a b c d ≡ go_with e f g h
-same_go a b c d e f g h p q r s = cc
+same_messages : (ms ns : List MessageWord) → All HasSmallChain ms → All HasSmallChain ns → map message_text ms ≡ map message_text ns → ms ≡ ns
+same_messages [] [] a b e = refl
+same_messages [] (n ∷ ns) a b e = absurd (cc)
+same_messages (m ∷ ms) [] a b e = absurd (cc)
+same_messages (m ∷ ms) (n ∷ ns) a b e =
+    let head : message_text m ≡ message_text n = cc in
+    let tail : map message_text ms ≡ map message_text ns = cc in
+    let first = one_message m n (All-head HasSmallChain m ms a) (All-head HasSmallChain n ns b) head in
+    let rest = same_messages ms ns (All-tail HasSmallChain m ms a) (All-tail HasSmallChain n ns b) tail in
+    cc
 
--- words are those of one command
-pub one_go : (words : List (List ℕ)) (g h : Go) → IsGo words g → IsGo words h → g ≡ h
-unfolding go_with
-one_go words g h a b =
+run_with : List ℕ → List MessageWord → RunWords
+run_with schedule messages = record { schedule = schedule; messages = messages }
+
+same_run : (a b : List ℕ) (c d : List MessageWord) → a ≡ b → c ≡ d → run_with a c ≡ run_with b d
+same_run a b c d e f = cc
+
+one_run : (r s : RunWords) → IsRun r → IsRun s → run_texts r ≡ run_texts s → r ≡ s
+unfolding run_with
+one_run r s a b e =
+    let schedule : r.schedule ≡ s.schedule = cc in
+    let texts : map message_text r.messages ≡ map message_text s.messages = cc in
+    same_run r.schedule s.schedule r.messages s.messages schedule (same_messages r.messages s.messages a.1 b.1 texts)
+
+pub one_command : (words : List (List ℕ)) (c d : Command) → IsCommand words c → IsCommand words d → c ≡ d
+one_command words (Check f) (Check g) a b = let e = sym a.are ∙ b.are in cc
+one_command words (Compile f i) (Compile g j) a b = let e = sym a.are ∙ b.are in cc
+one_command words (Run i r) (Run j s) a b =
     let e = sym a.are ∙ b.are in
-    let hex : codes "0=" ++ g.hex ≡ codes "0=" ++ h.hex = cc in
-    let digits : 61 ∷ g.hex ≡ 61 ∷ h.hex = cc in
-    let file : g.file ≡ h.file = cc in
-    let image : g.image ≡ h.image = cc in
-    let schedule : g.schedule ≡ h.schedule = cc in
-    let behind : g.hex ≡ h.hex = cc in
-    same_go g.file g.image g.schedule g.hex h.file h.image h.schedule h.hex file image schedule behind
+    let image : i ≡ j = cc in
+    let texts : run_texts r ≡ run_texts s = cc in
+    let run = one_run r s a.names.1 b.names.1 texts in
+    cc
+one_command words (Go f i r) (Go g j s) a b =
+    let e = sym a.are ∙ b.are in
+    let file : f ≡ g = cc in
+    let image : i ≡ j = cc in
+    let texts : run_texts r ≡ run_texts s = cc in
+    let run = one_run r s a.names.2 b.names.2 texts in
+    cc
+one_command words (Disasm i) (Disasm j) a b = let e = sym a.are ∙ b.are in cc
+one_command words (Assemble l i) (Assemble m j) a b = let e = sym a.are ∙ b.are in cc
+one_command words (Check f) (Disasm k) a b = let e = sym a.are ∙ b.are in absurd (cc)
+one_command words (Check f) (Assemble m k) a b = let e = sym a.are ∙ b.are in absurd (cc)
+one_command words (Compile f i) (Disasm k) a b = let e = sym a.are ∙ b.are in absurd (cc)
+one_command words (Compile f i) (Assemble m k) a b = let e = sym a.are ∙ b.are in absurd (cc)
+one_command words (Run i r) (Disasm k) a b = let e = sym a.are ∙ b.are in absurd (cc)
+one_command words (Run i r) (Assemble m k) a b = let e = sym a.are ∙ b.are in absurd (cc)
+one_command words (Go f i r) (Disasm k) a b = let e = sym a.are ∙ b.are in absurd (cc)
+one_command words (Go f i r) (Assemble m k) a b = let e = sym a.are ∙ b.are in absurd (cc)
+one_command words (Disasm k) (Check f) a b = let e = sym a.are ∙ b.are in absurd (cc)
+one_command words (Disasm k) (Compile f i) a b = let e = sym a.are ∙ b.are in absurd (cc)
+one_command words (Disasm k) (Run i r) a b = let e = sym a.are ∙ b.are in absurd (cc)
+one_command words (Disasm k) (Go f i r) a b = let e = sym a.are ∙ b.are in absurd (cc)
+one_command words (Assemble m k) (Check f) a b = let e = sym a.are ∙ b.are in absurd (cc)
+one_command words (Assemble m k) (Compile f i) a b = let e = sym a.are ∙ b.are in absurd (cc)
+one_command words (Assemble m k) (Run i r) a b = let e = sym a.are ∙ b.are in absurd (cc)
+one_command words (Assemble m k) (Go f i r) a b = let e = sym a.are ∙ b.are in absurd (cc)
+one_command words (Disasm k) (Assemble m j) a b = let e = sym a.are ∙ b.are in absurd (cc)
+one_command words (Assemble m k) (Disasm j) a b = let e = sym a.are ∙ b.are in absurd (cc)
+one_command words (Check f) (Compile g j) a b = let e = sym a.are ∙ b.are in absurd (cc)
+one_command words (Check f) (Run j s) a b = let e = sym a.are ∙ b.are in absurd (cc)
+one_command words (Check f) (Go g j s) a b = let e = sym a.are ∙ b.are in absurd (cc)
+one_command words (Compile f i) (Check g) a b = let e = sym a.are ∙ b.are in absurd (cc)
+one_command words (Compile f i) (Run j s) a b = let e = sym a.are ∙ b.are in absurd (cc)
+one_command words (Compile f i) (Go g j s) a b = let e = sym a.are ∙ b.are in absurd (cc)
+one_command words (Run i r) (Check g) a b = let e = sym a.are ∙ b.are in absurd (cc)
+one_command words (Run i r) (Compile g j) a b = let e = sym a.are ∙ b.are in absurd (cc)
+one_command words (Run i r) (Go g j s) a b = let e = sym a.are ∙ b.are in absurd (cc)
+one_command words (Go f i r) (Check g) a b = let e = sym a.are ∙ b.are in absurd (cc)
+one_command words (Go f i r) (Compile g j) a b = let e = sym a.are ∙ b.are in absurd (cc)
+one_command words (Go f i r) (Run j s) a b = let e = sym a.are ∙ b.are in absurd (cc)
 
-pub one_check : (words : List (List ℕ)) (f h : List ℕ) → IsCheck words f → IsCheck words h → f ≡ h
-one_check words f h a b = let e = sym a.are ∙ b.are in cc
+-- ---- reasons
 
-pub not_both_words : (words : List (List ℕ)) (f : List ℕ) (g : Go) → IsCheck words f → IsGo words g → ⊥
-not_both_words words f g a b = let e = sym a.are ∙ b.are in absurd (cc)
+-- each reason has one code
+abbrev IsCoded : (Status → Type 0) → Type 0
+IsCoded R = (s t : Status) → R s → R t → code_of s ≡ code_of t
 
--- what follows where the answers speak
-pub spoken_map : (s : Status) (P Q : Type 0) → (P → Q) → IfSpoken s P → IfSpoken s Q
-spoken_map Done P Q f h = f h
-spoken_map (Step line) P Q f h = f h
-spoken_map Missing P Q f h = f h
-spoken_map (Long seen limit) P Q f h = f h
-spoken_map (Text fault) P Q f h = f h
-spoken_map (ProgramRefused rule at seen) P Q f h = f h
-spoken_map NotBuilt P Q f h = f h
-spoken_map ReadFailed P Q f h = tt
-spoken_map Memory P Q f h = tt
-spoken_map WriteFailed P Q f h = tt
+abbrev AreCoded : Reasons → Type 0
+AreCoded Nil = Unit {0}
+AreCoded (Or R rest) = IsCoded R × AreCoded rest
 
-no_run : (t : Status) → ◌≡◌ {A = ℕ} 1 (code_of t) → ⊥
-no_run Done e = omega arith
-no_run (Step line) e = omega arith
-no_run Missing e = omega arith
-no_run (Long seen limit) e = omega arith
-no_run (Text fault) e = omega arith
-no_run (ProgramRefused rule at seen) e = omega arith
-no_run NotBuilt e = omega arith
-no_run ReadFailed e = omega arith
-no_run Memory e = omega arith
-no_run WriteFailed e = omega arith
+one_code : (R : Reasons) → AreCoded R → (s t : Status) → First R s → First R t → code_of s ≡ code_of t
+one_code Nil coded s t h k = absurd h
+one_code (Or P rest) (coded, more) s t (inl h) (inl k) = coded s t h k
+one_code (Or P rest) (coded, more) s t (inl h) (inr (never, k)) = absurd (never s h)
+one_code (Or P rest) (coded, more) s t (inr (never, h)) (inl k) = absurd (never t k)
+one_code (Or P rest) (coded, more) s t (inr (never, h)) (inr (also_never, k)) = one_code rest more s t h k
 
-module _ (files : Files) where
-  one_found : (name a b : List ℕ) → Finds (Some files) name (Some a) → Finds (Some files) name (Some b) → a ≡ b
-  one_found name a b p q = let e = sym p ∙ q in cc
+none_first : (R : Reasons) → NoneHolds R → (s : Status) → First R s → ⊥
+none_first Nil none s h = h
+none_first (Or P rest) (never, none) s (inl h) = never s h
+none_first (Or P rest) (never, none) s (inr (also_never, h)) = none_first rest none s h
 
-  not_both : (name a : List ℕ) → Finds (Some files) name (Some a) → Finds (Some files) name None → ⊥
-  not_both name a p q = let e = sym p ∙ q in absurd (cc)
+by_code : (n : ℕ) (s t : Status) → code_of s ≡ n → code_of t ≡ n → code_of s ≡ code_of t
+by_code n s t e f = e ∙ sym f
 
-  too_long : (name a : List ℕ) (most seen limit : ℕ) → IsHeld (Some files) name most a → IsLong (Some files) name most seen limit → ⊥
-  too_long name a most seen limit p q =
-      let e : length a ≡ length q.bytes = ap length (one_found name a q.bytes p.found q.found) in
-      omega (arith, e, p.fits, q.longer)
+module _ (found : Option (List ℕ)) where
+  missing_coded : IsCoded (missing found)
+  missing_coded s t h k = by_code 16 s t (ap code_of h.1) (ap code_of k.1)
 
-  long_missing : (name : List ℕ) (most seen limit : ℕ) → IsLong (Some files) name most seen limit → Finds (Some files) name None → ⊥
-  long_missing name most seen limit q p = not_both name q.bytes q.found p
+  long_coded : (limit : ℕ) → IsCoded (too_long found limit)
+  long_coded limit s t h k = by_code 5 s t (ap code_of h.2.1) (ap code_of k.2.1)
 
-  one_held : (name a b : List ℕ) (most : ℕ) → IsHeld (Some files) name most a → IsHeld (Some files) name most b → a ≡ b
-  one_held name a b most p q = one_found name a b p.found q.found
+  tree_coded : IsCoded (no_tree found)
+  tree_coded s t h k = by_code 6 s t (ap code_of h.2.2) (ap code_of k.2.2)
 
-  -- a text means nothing, breaks a rule, or means a program
-  tree_or_rule : (a b : List ℕ) (fault : TextFault) (rule at seen : ℕ) → a ≡ b → TextRefused a fault → RuleBroken b rule at seen → ⊥
-  tree_or_rule a b fault rule at seen e t r = (subst (λ (text : List ℕ). TextRefused text fault) e t).none r.file r.read
+  program_coded : IsCoded (no_program found)
+  program_coded s t h k = by_code 7 s t (ap code_of h.2.4) (ap code_of k.2.4)
 
-  tree_or_means : (a b : List ℕ) (fault : TextFault) (p : Program) → a ≡ b → TextRefused a fault → Means b p → ⊥
-  tree_or_means a b fault p e t m = (subst (λ (text : List ℕ). TextRefused text fault) e t).none m.file m.read
+  shape_coded : IsCoded (other_shape found)
+  shape_coded s t h k = by_code 13 s t (ap code_of h.2.1) (ap code_of k.2.1)
 
-  rule_or_means : (a b : List ℕ) (rule at seen : ℕ) (p : Program) → a ≡ b → RuleBroken a rule at seen → Means b p → ⊥
-  rule_or_means a b rule at seen p e r m = (subst (λ (text : List ℕ). RuleBroken text rule at seen) e r).none p m
+  image_coded : IsCoded (no_image found)
+  image_coded s t h k = by_code 8 s t (ap code_of h.2.2) (ap code_of k.2.2)
 
-  -- ---- check
+  wrong_line_coded : IsCoded (wrong_line found)
+  wrong_line_coded s t h k = by_code 6 s t (ap code_of h.2.2) (ap code_of k.2.2)
 
-  module _ (file : List ℕ) where
-    data CheckReason : ℕ → Type 0 where
-      NoFile : Finds (Some files) file None → CheckReason 16
-      TooLong : (seen limit : ℕ) → IsLong (Some files) file FILE_LIMIT seen limit → CheckReason 5
-      NoTree : (source : List ℕ) (fault : TextFault) → IsHeld (Some files) file FILE_LIMIT source → TextRefused source fault → CheckReason 6
-      Broken : (source : List ℕ) (rule at seen : ℕ) → IsHeld (Some files) file FILE_LIMIT source → RuleBroken source rule at seen → CheckReason 7
-      Good : (source : List ℕ) (p : Program) → IsHeld (Some files) file FILE_LIMIT source → Means source p → CheckReason 0
+  rows_coded : IsCoded (broken_rows found)
+  rows_coded s t h k = by_code 8 s t (ap code_of h.2.2) (ap code_of k.2.2)
 
-    one_check_reason : (a b : ℕ) → CheckReason a → CheckReason b → a ≡ b
-    one_check_reason a b (NoFile p) (NoFile q) = refl
-    one_check_reason a b (NoFile p) (TooLong seen limit q) = absurd (long_missing file FILE_LIMIT seen limit q p)
-    one_check_reason a b (NoFile p) (NoTree source fault h t) = absurd (not_both file source h.found p)
-    one_check_reason a b (NoFile p) (Broken source rule at seen h t) = absurd (not_both file source h.found p)
-    one_check_reason a b (NoFile p) (Good source q h m) = absurd (not_both file source h.found p)
-    one_check_reason a b (TooLong seen limit q) (NoFile p) = absurd (long_missing file FILE_LIMIT seen limit q p)
-    one_check_reason a b (TooLong seen limit q) (TooLong seen' limit' p) = refl
-    one_check_reason a b (TooLong seen limit q) (NoTree source fault h t) = absurd (too_long file source FILE_LIMIT seen limit h q)
-    one_check_reason a b (TooLong seen limit q) (Broken source rule at see h t) = absurd (too_long file source FILE_LIMIT seen limit h q)
-    one_check_reason a b (TooLong seen limit q) (Good source p h m) = absurd (too_long file source FILE_LIMIT seen limit h q)
-    one_check_reason a b (NoTree source fault h t) (NoFile p) = absurd (not_both file source h.found p)
-    one_check_reason a b (NoTree source fault h t) (TooLong seen limit q) = absurd (too_long file source FILE_LIMIT seen limit h q)
-    one_check_reason a b (NoTree source fault h t) (NoTree source' fault' h' t') = refl
-    one_check_reason a b (NoTree source fault h t) (Broken other rule at seen k r) = absurd (tree_or_rule source other fault rule at seen (one_held file source other FILE_LIMIT h k) t r)
-    one_check_reason a b (NoTree source fault h t) (Good other p k m) = absurd (tree_or_means source other fault p (one_held file source other FILE_LIMIT h k) t m)
-    one_check_reason a b (Broken source rule at see h t) (NoFile p) = absurd (not_both file source h.found p)
-    one_check_reason a b (Broken source rule at see h t) (TooLong seen limit q) = absurd (too_long file source FILE_LIMIT seen limit h q)
-    one_check_reason a b (Broken other rule at seen k r) (NoTree source fault h t) = absurd (tree_or_rule source other fault rule at seen (one_held file source other FILE_LIMIT h k) t r)
-    one_check_reason a b (Broken source rule at see h t) (Broken source' rule' at' see' h' t') = refl
-    one_check_reason a b (Broken other rule at seen k r) (Good source p h m) = absurd (rule_or_means other source rule at seen p (one_held file other source FILE_LIMIT k h) r m)
-    one_check_reason a b (Good source q h m) (NoFile p) = absurd (not_both file source h.found p)
-    one_check_reason a b (Good source p h m) (TooLong seen limit q) = absurd (too_long file source FILE_LIMIT seen limit h q)
-    one_check_reason a b (Good other p k m) (NoTree source fault h t) = absurd (tree_or_means source other fault p (one_held file source other FILE_LIMIT h k) t m)
-    one_check_reason a b (Good source p h m) (Broken other rule at seen k r) = absurd (rule_or_means other source rule at seen p (one_held file other source FILE_LIMIT k h) r m)
-    one_check_reason a b (Good source p h m) (Good source' p' h' m') = refl
+  line_coded : IsCoded (bad_line found)
+  line_coded s t h k = by_code 13 s t (ap code_of h.2.1) (ap code_of k.2.1)
 
-    good_reason : (f : File) → Checks (Some files) file f → CheckReason 0
-    good_reason f c = Good c.source (program_of f) c.held (record { file = f; read = c.read; accepted = c.accepted; is = refl })
+reasons_coded : (c : Command) (i : Input) → AreCoded (reasons c i)
+reasons_coded (Check file) i = (missing_coded i.first, (long_coded i.first FILE_LIMIT, (tree_coded i.first, (program_coded i.first, tt))))
+reasons_coded (Compile file image) i = (missing_coded i.first, (long_coded i.first FILE_LIMIT, (tree_coded i.first, (program_coded i.first, (shape_coded i.first, tt)))))
+reasons_coded (Run image r) i = (missing_coded i.first, (long_coded i.first IMAGE_LIMIT, (missing_coded i.schedule, (long_coded i.schedule SCHEDULE_LIMIT, (image_coded i.first, (line_coded i.schedule, tt))))))
+reasons_coded (Disasm image) i = (missing_coded i.first, (long_coded i.first IMAGE_LIMIT, (image_coded i.first, tt)))
+reasons_coded (Assemble listing image) i = (missing_coded i.first, (long_coded i.first LISTING_LIMIT, (wrong_line_coded i.first, (rows_coded i.first, tt))))
+reasons_coded (Go file image r) i = (missing_coded i.first, (long_coded i.first FILE_LIMIT, (missing_coded i.schedule, (long_coded i.schedule SCHEDULE_LIMIT, (tree_coded i.first, (program_coded i.first, (shape_coded i.first, (line_coded i.schedule, tt))))))))
 
-    refused_reason : (s : Status) → CheckRefused (Some files) file s → IfSpoken s (CheckReason (code_of s))
-    refused_reason Missing h = NoFile h
-    refused_reason (Long seen limit) h = TooLong seen limit h
-    refused_reason (Text fault) h = NoTree h.0 fault h.1.0 h.1.1
-    refused_reason (ProgramRefused rule at seen) h = Broken h.0 rule at seen h.1.0 h.1.1
-    refused_reason ReadFailed h = tt
-    refused_reason Memory h = tt
-    refused_reason WriteFailed h = tt
-    refused_reason Done h = absurd h
-    refused_reason NotBuilt h = absurd h
-    refused_reason (Step line) h = absurd h
+-- where the store tells, reasons are those of what it holds
+same_reasons : (files : Files) (c : Command) (i j : Input) → IsInput (Some files) c i → IsInput (Some files) c j → (P : Reasons → Type 0) → P (reasons c i) → P (reasons c j)
+same_reasons files (Check file) i j a b P h = subst (λ (f : Option (List ℕ)). P (also (read_reasons f FILE_LIMIT) (source_reasons f))) (sym a ∙ b) h
+same_reasons files (Compile file image) i j a b P h = subst (λ (f : Option (List ℕ)). P (also (read_reasons f FILE_LIMIT) (program_reasons f))) (sym a ∙ b) h
+same_reasons files (Run image r) i j a b P h =
+    subst (λ (f : Option (List ℕ)). P (also (two_reads f IMAGE_LIMIT j.schedule) (also (image_reasons f) (line_reasons j.schedule)))) (sym a.0 ∙ b.0)
+    (subst (λ (l : Option (List ℕ)). P (also (two_reads i.first IMAGE_LIMIT l) (also (image_reasons i.first) (line_reasons l)))) (sym a.1 ∙ b.1) h)
+same_reasons files (Disasm image) i j a b P h = subst (λ (f : Option (List ℕ)). P (also (read_reasons f IMAGE_LIMIT) (image_reasons f))) (sym a ∙ b) h
+same_reasons files (Assemble listing image) i j a b P h = subst (λ (f : Option (List ℕ)). P (also (read_reasons f LISTING_LIMIT) (listing_reasons f))) (sym a ∙ b) h
+same_reasons files (Go file image r) i j a b P h =
+    subst (λ (f : Option (List ℕ)). P (also (two_reads f FILE_LIMIT j.schedule) (also (program_reasons f) (line_reasons j.schedule)))) (sym a.0 ∙ b.0)
+    (subst (λ (l : Option (List ℕ)). P (also (two_reads i.first FILE_LIMIT l) (also (program_reasons i.first) (line_reasons l)))) (sym a.1 ∙ b.1) h)
 
-    answered_reason : (s : Status) (printed : List ℕ) (written : List Written) → AnswersCheck file (Some files) s printed written → IfSpoken s (CheckReason (code_of s))
-    answered_reason Done printed written a = good_reason a.0 a.1.0
-    answered_reason Missing printed written a = refused_reason Missing a.1
-    answered_reason (Long seen limit) printed written a = refused_reason (Long seen limit) a.1
-    answered_reason (Text fault) printed written a = refused_reason (Text fault) a.1
-    answered_reason (ProgramRefused rule at seen) printed written a = refused_reason (ProgramRefused rule at seen) a.1
-    answered_reason ReadFailed printed written a = tt
-    answered_reason Memory printed written a = tt
-    answered_reason WriteFailed printed written a = tt
-    answered_reason NotBuilt printed written a = absurd a.1
-    answered_reason (Step line) printed written a = absurd a.1
+-- ---- what follows where the store tells
 
-  -- ---- go
+run_end : (image : Image) (words : List MessageWord) (lines : List Numbered) (s : Status) (printed : List ℕ) → RunsImage image words lines s printed → IsRunEnd s
+run_end image words lines s printed (BadMessages (inl h) e) = subst IsRunEnd (sym h.3) tt
+run_end image words lines s printed (BadMessages (inr (never, inl h)) e) = subst IsRunEnd (sym h.3) tt
+run_end image words lines s printed (BadMessages (inr (never, inr (also_never, h))) e) = absurd h
+run_end image words lines s printed (ToEnd none e h) = subst IsRunEnd (sym e) tt
+run_end image words lines s printed (Stops line none e h) = subst IsRunEnd (sym e) tt
 
-  module _ (g : Go) where
-    data GoReason : ℕ → Type 0 where
-      Lacks : LacksFile (Some files) g → GoReason 16
-      Longs : (seen limit : ℕ) → HasLongFile (Some files) g seen limit → GoReason 5
-      GoNoTree : (r : Reading (Some files) g) (fault : TextFault) → TextRefused r.source fault → GoReason 6
-      GoBroken : (r : Reading (Some files) g) (rule at seen : ℕ) → RuleBroken r.source rule at seen → GoReason 7
-      Unbuilt : (r : Reading (Some files) g) → LacksPart r.source r.schedule g.hex → GoReason 13
-      Runs : (p : Program) (message : List ℕ) (lines : List Numbered) → CanRun (Some files) g p message lines → GoReason 1
+finishes : (c : Command) (i : Input) (s : Status) (printed : List ℕ) (written : List Written) → Finishes c i s printed written → IsFinish c s
+finishes (Check file) i s printed written h = h.done
+finishes (Compile file image) i s printed written h = h.1
+finishes (Run image r) i s printed written h = run_end h.0.1 r.messages h.0.4.lines s printed h.0.4.runs
+finishes (Disasm image) i s printed written h = h.1
+finishes (Assemble listing image) i s printed written h = h.1
+finishes (Go file image r) i s printed written h = run_end h.0 r.messages h.2.lines s printed h.2.runs
 
-    has_both : Reading (Some files) g → LacksFile (Some files) g → ⊥
-    has_both r (NoSource p) = not_both g.file r.source r.source_held.found p
-    has_both r (NoSchedule source held q) = not_both g.schedule r.schedule r.schedule_held.found q
+module _ (c : Command) (before now : StoreSeen) (out out_now : SinkSeen) (files : Files) (told : before.told ≡ Some files) (i : Input) (is : IsInput (Some files) c i) where
+  answered_code : (s t : Status) → First (reasons c i) s → Answered c before now out out_now t → code_of t ≡ code_of s
+  answered_code s t h a =
+      let its = subst (λ (f : Option Files). IsInput f c a.input) told a.is_input in
+      elim a.answers [
+        | inl x ↦ one_code (reasons c i) (reasons_coded c i) t s (same_reasons files c a.input i its is (λ R. First R t) x.0) h
+        | inr x ↦ absurd (none_first (reasons c i) (same_reasons files c a.input i its is NoneHolds x.0) s h)
+      ]
 
-    both_short : (seen limit : ℕ) → Reading (Some files) g → HasLongFile (Some files) g seen limit → ⊥
-    both_short seen limit r (LongSource q) = too_long g.file r.source FILE_LIMIT seen limit r.source_held q
-    both_short seen limit r (LongSchedule source held q) = too_long g.schedule r.schedule SCHEDULE_LIMIT seen limit r.schedule_held q
+  answered_finish : (t : Status) → NoneHolds (reasons c i) → Answered c before now out out_now t → IsFinish c t
+  answered_finish t none a =
+      let its = subst (λ (f : Option Files). IsInput f c a.input) told a.is_input in
+      elim a.answers [
+        | inl x ↦ absurd (none_first (reasons c i) none t (same_reasons files c a.input i its is (λ R. First R t) x.0))
+        | inr x ↦ finishes c a.input t a.printed a.written x.1
+      ]
 
-    missing_or_long : (seen limit : ℕ) → LacksFile (Some files) g → HasLongFile (Some files) g seen limit → ⊥
-    missing_or_long seen limit (NoSource p) (LongSource q) = long_missing g.file FILE_LIMIT seen limit q p
-    missing_or_long seen limit (NoSource p) (LongSchedule source held q) = not_both g.file source held.found p
-    missing_or_long seen limit (NoSchedule source held p) (LongSource q) = too_long g.file source FILE_LIMIT seen limit held q
-    missing_or_long seen limit (NoSchedule source held p) (LongSchedule other held' q) = long_missing g.schedule SCHEDULE_LIMIT seen limit q p
+  pub demands_so : (s t : Status) → First (reasons c i) s → Ends c before now out out_now t → IfSpoken t (code_of t ≡ code_of s)
+  demands_so s ReadFailed h e = tt
+  demands_so s WriteFailed h e = tt
+  demands_so s Memory h e = tt
+  demands_so s Missing h e = answered_code s Missing h e.1
+  demands_so s (Long seen limit) h e = answered_code s (Long seen limit) h e.1
+  demands_so s Done h e = answered_code s Done h e
+  demands_so s (Text fault) h e = answered_code s (Text fault) h e
+  demands_so s (ProgramRefused rule at seen) h e = answered_code s (ProgramRefused rule at seen) h e
+  demands_so s (ImageRefused fault) h e = answered_code s (ImageRefused fault) h e
+  demands_so s (Step line) h e = answered_code s (Step line) h e
+  demands_so s (Message fault) h e = answered_code s (Message fault) h e
+  demands_so s NotBuilt h e = answered_code s NotBuilt h e
 
-    one_source : (r s : Reading (Some files) g) → r.source ≡ s.source
-    one_source r s = one_held g.file r.source s.source FILE_LIMIT r.source_held s.source_held
+  pub works_so : (t : Status) → NoneHolds (reasons c i) → Ends c before now out out_now t → IfSpoken t (IsFinish c t)
+  works_so ReadFailed none e = tt
+  works_so WriteFailed none e = tt
+  works_so Memory none e = tt
+  works_so Missing none e = answered_finish Missing none e.1
+  works_so (Long seen limit) none e = answered_finish (Long seen limit) none e.1
+  works_so Done none e = answered_finish Done none e
+  works_so (Text fault) none e = answered_finish (Text fault) none e
+  works_so (ProgramRefused rule at seen) none e = answered_finish (ProgramRefused rule at seen) none e
+  works_so (ImageRefused fault) none e = answered_finish (ImageRefused fault) none e
+  works_so (Step line) none e = answered_finish (Step line) none e
+  works_so (Message fault) none e = answered_finish (Message fault) none e
+  works_so NotBuilt none e = answered_finish NotBuilt none e
 
-    one_schedule : (r s : Reading (Some files) g) → r.schedule ≡ s.schedule
-    one_schedule r s = one_held g.schedule r.schedule s.schedule SCHEDULE_LIMIT r.schedule_held s.schedule_held
-
-    part_means : (source schedule hex : List ℕ) → LacksPart source schedule hex → (p : Program) × Means source p
-    part_means source schedule hex (OtherShape p m not) = (p, m)
-    part_means source schedule hex (BadMessage p m not) = (p, m)
-    part_means source schedule hex (BadLine p lines bad m reads) = (p, m)
-
-    part_or_plan : (source schedule hex : List ℕ) (p : Program) (message : List ℕ) (lines : List Numbered) → LacksPart source schedule hex → Plans source schedule hex p message lines → ⊥
-    part_or_plan source schedule hex p message lines (OtherShape q m not) plans = not p plans.means plans.shape
-    part_or_plan source schedule hex p message lines (BadMessage q m not) plans = not p message plans.means plans.good_message
-    part_or_plan source schedule hex p message lines (BadLine q other bad m reads) plans =
-        let same = one_reading 1 (lines_of schedule) lines other None (Some bad) plans.actions reads in
-        let e = same.1 in
-        absurd cc
-
-    part_or_run : (r : Reading (Some files) g) (p : Program) (message : List ℕ) (lines : List Numbered) → LacksPart r.source r.schedule g.hex → CanRun (Some files) g p message lines → ⊥
-    part_or_run r p message lines lacks can =
-        let of_source = subst (λ (t : List ℕ). Plans t can.reading.schedule g.hex p message lines) (one_source can.reading r) can.plans in
-        let of_both = subst (λ (t : List ℕ). Plans r.source t g.hex p message lines) (one_schedule can.reading r) of_source in
-        part_or_plan r.source r.schedule g.hex p message lines lacks of_both
-
-    one_go_reason : (a b : ℕ) → GoReason a → GoReason b → a ≡ b
-    one_go_reason a b (Lacks p) (Lacks q) = refl
-    one_go_reason a b (Lacks p) (Longs seen limit q) = absurd (missing_or_long seen limit p q)
-    one_go_reason a b (Lacks p) (GoNoTree r fault t) = absurd (has_both r p)
-    one_go_reason a b (Lacks p) (GoBroken r rule at seen t) = absurd (has_both r p)
-    one_go_reason a b (Lacks p) (Unbuilt r t) = absurd (has_both r p)
-    one_go_reason a b (Lacks p) (Runs q message lines can) = absurd (has_both can.reading p)
-    one_go_reason a b (Longs seen limit q) (Lacks p) = absurd (missing_or_long seen limit p q)
-    one_go_reason a b (Longs seen limit q) (Longs seen' limit' p) = refl
-    one_go_reason a b (Longs seen limit q) (GoNoTree r fault t) = absurd (both_short seen limit r q)
-    one_go_reason a b (Longs seen limit q) (GoBroken r rule at see t) = absurd (both_short seen limit r q)
-    one_go_reason a b (Longs seen limit q) (Unbuilt r t) = absurd (both_short seen limit r q)
-    one_go_reason a b (Longs seen limit q) (Runs p message lines can) = absurd (both_short seen limit can.reading q)
-    one_go_reason a b (GoNoTree r fault t) (Lacks p) = absurd (has_both r p)
-    one_go_reason a b (GoNoTree r fault t) (Longs seen limit q) = absurd (both_short seen limit r q)
-    one_go_reason a b (GoNoTree r fault t) (GoNoTree r' fault' t') = refl
-    one_go_reason a b (GoNoTree r fault t) (GoBroken s rule at seen k) = absurd (tree_or_rule r.source s.source fault rule at seen (one_source r s) t k)
-    one_go_reason a b (GoNoTree r fault t) (Unbuilt s k) = absurd (tree_or_means r.source s.source fault (part_means s.source s.schedule g.hex k).0 (one_source r s) t (part_means s.source s.schedule g.hex k).1)
-    one_go_reason a b (GoNoTree r fault t) (Runs p message lines can) = absurd (tree_or_means r.source can.reading.source fault p (one_source r can.reading) t can.plans.means)
-    one_go_reason a b (GoBroken r rule at see t) (Lacks p) = absurd (has_both r p)
-    one_go_reason a b (GoBroken r rule at see t) (Longs seen limit q) = absurd (both_short seen limit r q)
-    one_go_reason a b (GoBroken s rule at seen k) (GoNoTree r fault t) = absurd (tree_or_rule r.source s.source fault rule at seen (one_source r s) t k)
-    one_go_reason a b (GoBroken r rule at see t) (GoBroken r' rule' at' see' t') = refl
-    one_go_reason a b (GoBroken r rule at seen t) (Unbuilt s k) = absurd (rule_or_means r.source s.source rule at seen (part_means s.source s.schedule g.hex k).0 (one_source r s) t (part_means s.source s.schedule g.hex k).1)
-    one_go_reason a b (GoBroken r rule at seen t) (Runs p message lines can) = absurd (rule_or_means r.source can.reading.source rule at seen p (one_source r can.reading) t can.plans.means)
-    one_go_reason a b (Unbuilt r t) (Lacks p) = absurd (has_both r p)
-    one_go_reason a b (Unbuilt r t) (Longs seen limit q) = absurd (both_short seen limit r q)
-    one_go_reason a b (Unbuilt s k) (GoNoTree r fault t) = absurd (tree_or_means r.source s.source fault (part_means s.source s.schedule g.hex k).0 (one_source r s) t (part_means s.source s.schedule g.hex k).1)
-    one_go_reason a b (Unbuilt s k) (GoBroken r rule at seen t) = absurd (rule_or_means r.source s.source rule at seen (part_means s.source s.schedule g.hex k).0 (one_source r s) t (part_means s.source s.schedule g.hex k).1)
-    one_go_reason a b (Unbuilt r t) (Unbuilt r' t') = refl
-    one_go_reason a b (Unbuilt r t) (Runs p message lines can) = absurd (part_or_run r p message lines t can)
-    one_go_reason a b (Runs q message lines can) (Lacks p) = absurd (has_both can.reading p)
-    one_go_reason a b (Runs p message lines can) (Longs seen limit q) = absurd (both_short seen limit can.reading q)
-    one_go_reason a b (Runs p message lines can) (GoNoTree r fault t) = absurd (tree_or_means r.source can.reading.source fault p (one_source r can.reading) t can.plans.means)
-    one_go_reason a b (Runs p message lines can) (GoBroken r rule at seen t) = absurd (rule_or_means r.source can.reading.source rule at seen p (one_source r can.reading) t can.plans.means)
-    one_go_reason a b (Runs p message lines can) (Unbuilt r t) = absurd (part_or_run r p message lines t can)
-    one_go_reason a b (Runs p message lines can) (Runs p' message' lines' can') = refl
-
-    -- a run that was begun has its own number
-    reason_code : Status → ℕ
-    reason_code Done = 1
-    reason_code (Step line) = 1
-    reason_code s = code_of s
-
-    go_refused_reason : (s : Status) → GoRefused (Some files) g s → IfSpoken s (GoReason (code_of s))
-    go_refused_reason Missing h = Lacks h
-    go_refused_reason (Long seen limit) h = Longs seen limit h
-    go_refused_reason (Text fault) h = GoNoTree h.0 fault h.1
-    go_refused_reason (ProgramRefused rule at seen) h = GoBroken h.0 rule at seen h.1
-    go_refused_reason NotBuilt h = Unbuilt h.0 h.1
-    go_refused_reason ReadFailed h = tt
-    go_refused_reason Memory h = tt
-    go_refused_reason WriteFailed h = tt
-    go_refused_reason Done h = absurd h
-    go_refused_reason (Step line) h = absurd h
-
-    go_answered_reason : (s : Status) (printed : List ℕ) (written : List Written) → AnswersGo g (Some files) s printed written → IfSpoken s (GoReason (reason_code s))
-    unfolding reason_code
-    go_answered_reason Done printed written a = Runs a.0 a.1.0 a.1.1.0 a.1.1.1
-    go_answered_reason (Step line) printed written a = Runs a.0 a.1.0 a.1.1.0 a.1.1.1
-    go_answered_reason Missing printed written a = go_refused_reason Missing a.1
-    go_answered_reason (Long seen limit) printed written a = go_refused_reason (Long seen limit) a.1
-    go_answered_reason (Text fault) printed written a = go_refused_reason (Text fault) a.1
-    go_answered_reason (ProgramRefused rule at seen) printed written a = go_refused_reason (ProgramRefused rule at seen) a.1
-    go_answered_reason NotBuilt printed written a = go_refused_reason NotBuilt a.1
-    go_answered_reason ReadFailed printed written a = tt
-    go_answered_reason Memory printed written a = tt
-    go_answered_reason WriteFailed printed written a = tt
-
-    same_code : (s t : Status) → reason_code s ≡ code_of t → code_of s ≡ code_of t
-    unfolding reason_code
-    same_code Done t e = absurd (no_run t e)
-    same_code (Step line) t e = absurd (no_run t e)
-    same_code Missing t e = e
-    same_code (Long seen limit) t e = e
-    same_code (Text fault) t e = e
-    same_code (ProgramRefused rule at seen) t e = e
-    same_code NotBuilt t e = e
-    same_code ReadFailed t e = e
-    same_code Memory t e = e
-    same_code WriteFailed t e = e
-
-    is_run : (s : Status) → reason_code s ≡ 1 → IsRun s
-    unfolding reason_code
-    is_run Done e = tt
-    is_run (Step line) e = tt
-    is_run Missing e = absurd (omega arith)
-    is_run (Long seen limit) e = absurd (omega arith)
-    is_run (Text fault) e = absurd (omega arith)
-    is_run (ProgramRefused rule at seen) e = absurd (omega arith)
-    is_run NotBuilt e = absurd (omega arith)
-    is_run ReadFailed e = absurd (omega arith)
-    is_run Memory e = absurd (omega arith)
-    is_run WriteFailed e = absurd (omega arith)
-
-    go_codes : (s t : Status) → IfSpoken s (GoReason (reason_code s)) → IfSpoken t (GoReason (code_of t)) → IfSpoken t (IfSpoken s (code_of s ≡ code_of t))
-    go_codes s t hs ht =
-        spoken_map t (GoReason (code_of t)) (IfSpoken s (code_of s ≡ code_of t)) (λ pt. spoken_map s (GoReason (reason_code s)) (code_of s ≡ code_of t) (λ ps. same_code s t (one_go_reason (reason_code s) (code_of t) ps pt)) hs) ht
-
-    go_runs : (s : Status) → IfSpoken s (GoReason (reason_code s)) → (p : Program) (message : List ℕ) (lines : List Numbered) → CanRun (Some files) g p message lines → IfSpoken s (IsRun s)
-    go_runs s hs p message lines can = spoken_map s (GoReason (reason_code s)) (IsRun s) (λ ps. is_run s (one_go_reason (reason_code s) 1 ps (Runs p message lines can))) hs
-
-  check_codes : (file : List ℕ) (s t : Status) → IfSpoken s (CheckReason file (code_of s)) → IfSpoken t (CheckReason file (code_of t)) → IfSpoken t (IfSpoken s (code_of s ≡ code_of t))
-  check_codes file s t hs ht =
-      spoken_map t (CheckReason file (code_of t)) (IfSpoken s (code_of s ≡ code_of t)) (λ pt. spoken_map s (CheckReason file (code_of s)) (code_of s ≡ code_of t) (λ ps. one_check_reason file (code_of s) (code_of t) ps pt) hs) ht
-
-  -- ---- commands
-
-  module _ (words : List (List ℕ)) where
-    other_code : (s : Status) (printed : List ℕ) (written : List Written) → AnswersOther s printed written → IfSpoken s (code_of s ≡ 13)
-    other_code NotBuilt printed written a = refl
-    other_code Done printed written a = absurd a
-    other_code (Step line) printed written a = absurd a
-    other_code Missing printed written a = absurd a
-    other_code (Long seen limit) printed written a = absurd a
-    other_code (Text fault) printed written a = absurd a
-    other_code (ProgramRefused rule at seen) printed written a = absurd a
-    other_code ReadFailed printed written a = tt
-    other_code Memory printed written a = tt
-    other_code WriteFailed printed written a = tt
-
-    demanded : (s : Status) (printed : List ℕ) (written : List Written) → Answers words (Some files) s printed written → (t : Status) → Demands words files t → IfSpoken t (IfSpoken s (code_of s ≡ code_of t))
-    demanded s printed written (OfCheck file is a) u (RefusedCheck other t was h) =
-        check_codes file s t (answered_reason file s printed written a) (refused_reason file t (subst (λ (f : List ℕ). CheckRefused (Some files) f t) (one_check words other file was is) h))
-    demanded s printed written (OfCheck file is a) Done (GoodCheck other f was h) =
-        check_codes file s Done (answered_reason file s printed written a) (good_reason file f (subst (λ (n : List ℕ). Checks (Some files) n f) (one_check words other file was is) h))
-    demanded s printed written (OfCheck file is a) u (RefusedGo g t was h) = absurd (not_both_words words file g is was)
-    demanded s printed written (OfCheck file is a) NotBuilt (NoCommand no_check no_go) = absurd (no_check file is)
-    demanded s printed written (OfGo g is a) u (RefusedCheck file t was h) = absurd (not_both_words words file g was is)
-    demanded s printed written (OfGo g is a) Done (GoodCheck file f was h) = absurd (not_both_words words file g was is)
-    demanded s printed written (OfGo g is a) u (RefusedGo other t was h) =
-        go_codes g s t (go_answered_reason g s printed written a) (go_refused_reason g t (subst (λ (o : Go). GoRefused (Some files) o t) (one_go words other g was is) h))
-    demanded s printed written (OfGo g is a) NotBuilt (NoCommand no_check no_go) = absurd (no_go g is)
-    demanded s printed written (OfOther no_check no_go a) u (RefusedCheck file t was h) = absurd (no_check file was)
-    demanded s printed written (OfOther no_check no_go a) Done (GoodCheck file f was h) = absurd (no_check file was)
-    demanded s printed written (OfOther no_check no_go a) u (RefusedGo g t was h) = absurd (no_go g was)
-    demanded s printed written (OfOther no_check no_go a) NotBuilt (NoCommand no_check' no_go') = other_code s printed written a
-
-    begun : (s : Status) (printed : List ℕ) (written : List Written) → Answers words (Some files) s printed written → (g : Go) → IsGo words g → (p : Program) (message : List ℕ) (lines : List Numbered) → CanRun (Some files) g p message lines → IfSpoken s (IsRun s)
-    begun s printed written (OfCheck file is a) g was p message lines can = absurd (not_both_words words file g is was)
-    begun s printed written (OfGo g is a) other was p message lines can =
-        go_runs g s (go_answered_reason g s printed written a) p message lines (subst (λ (o : Go). CanRun (Some files) o p message lines) (one_go words other g was is) can)
-    begun s printed written (OfOther no_check no_go a) g was p message lines can = absurd (no_go g was)
-
--- an answer holds of what was printed and written
-answer_of : (words : List (List ℕ)) (held held_now : Option Files) (text text_now : Option (List ℕ)) (files : Files) → held ≡ Some files → (s : Status) (Q : Type 0) → ((printed : List ℕ) (written : List Written) → Answers words (Some files) s printed written → Q) → IfSpoken s (Grew held held_now text text_now (Answers words held s)) → IfSpoken s Q
-answer_of words held held_now text text_now files e s Q so a =
-    spoken_map s (Grew held held_now text text_now (Answers words held s)) Q (λ grew. so grew.printed grew.written (subst (λ (t : Option Files). Answers words t s grew.printed grew.written) e grew.answers)) a
-
-spoken_twice : (s : Status) (P : Type 0) → IfSpoken s (IfSpoken s P) → IfSpoken s P
-spoken_twice Done P h = h
-spoken_twice (Step line) P h = h
-spoken_twice Missing P h = h
-spoken_twice (Long seen limit) P h = h
-spoken_twice (Text fault) P h = h
-spoken_twice (ProgramRefused rule at seen) P h = h
-spoken_twice NotBuilt P h = h
-spoken_twice ReadFailed P h = tt
-spoken_twice Memory P h = tt
-spoken_twice WriteFailed P h = tt
-
-swapped : (s t : Status) (P : Type 0) → IfSpoken s (IfSpoken t (IfSpoken s P)) → IfSpoken t (IfSpoken s P)
-swapped s Done P h = spoken_twice s P h
-swapped s (Step line) P h = spoken_twice s P h
-swapped s Missing P h = spoken_twice s P h
-swapped s (Long seen limit) P h = spoken_twice s P h
-swapped s (Text fault) P h = spoken_twice s P h
-swapped s (ProgramRefused rule at seen) P h = spoken_twice s P h
-swapped s NotBuilt P h = spoken_twice s P h
-swapped s ReadFailed P h = tt
-swapped s Memory P h = tt
-swapped s WriteFailed P h = tt
-
-module _ (words : List (List ℕ)) (held held_now : Option Files) (text text_now : Option (List ℕ)) (s : Status) (a : IfSpoken s (Grew held held_now text text_now (Answers words held s))) (files : Files) (e : held ≡ Some files) where
-  pub demands_so : (t : Status) → Demands words files t → IfSpoken t (IfSpoken s (code_of s ≡ code_of t))
-  demands_so t h = swapped s t (code_of s ≡ code_of t) (answer_of words held held_now text text_now files e s (IfSpoken t (IfSpoken s (code_of s ≡ code_of t))) (λ printed written b. demanded files words s printed written b t h) a)
-
-  pub runs_so : (g : Go) → IsGo words g → (p : Program) (message : List ℕ) (lines : List Numbered) → CanRun (Some files) g p message lines → IfSpoken s (IsRun s)
-  runs_so g is p message lines can = spoken_twice s (IsRun s) (answer_of words held held_now text text_now files e s (IfSpoken s (IsRun s)) (λ printed written b. begun files words s printed written b g is p message lines can) a)
-
--- the answers of one command are those of the whole
-module _ (words : List (List ℕ)) (held held_now : Option Files) (text text_now : Option (List ℕ)) (s : Status) where
-  pub as_go : (g : Go) → IsGo words g → IfSpoken s (Grew held held_now text text_now (AnswersGo g held s)) → IfSpoken s (Grew held held_now text text_now (Answers words held s))
-  as_go g is a =
-      spoken_map s (Grew held held_now text text_now (AnswersGo g held s)) (Grew held held_now text text_now (Answers words held s)) (λ grew. record {
-        printed = grew.printed;
-        written = grew.written;
-        answers = OfGo g is grew.answers;
-        holds = grew.holds;
-        prints = grew.prints;
-      }) a
-
-  pub as_check : (file : List ℕ) → IsCheck words file → IfSpoken s (Grew held held_now text text_now (AnswersCheck file held s)) → IfSpoken s (Grew held held_now text text_now (Answers words held s))
-  as_check file is a =
-      spoken_map s (Grew held held_now text text_now (AnswersCheck file held s)) (Grew held held_now text text_now (Answers words held s)) (λ grew. record {
-        printed = grew.printed;
-        written = grew.written;
-        answers = OfCheck file is grew.answers;
-        holds = grew.holds;
-        prints = grew.prints;
-      }) a
-
--- where no call failed, a run was begun or memory was wanting
-pub completes_so : (s : Status) (reads writes puts : Type 0) → IfSpoken s (IsRun s) → OnReadFailed s reads → OnWriteFailed s (writes ⊎ puts) → ¬ reads → ¬ writes → ¬ puts → IsRunOrWant s
-completes_so Done reads writes puts h r w a b d = tt
-completes_so (Step line) reads writes puts h r w a b d = tt
-completes_so Memory reads writes puts h r w a b d = tt
-completes_so ReadFailed reads writes puts h r w a b d = absurd (a r)
-completes_so WriteFailed reads writes puts h r (inl w) a b d = absurd (b w)
-completes_so WriteFailed reads writes puts h r (inr w) a b d = absurd (d w)
-completes_so Missing reads writes puts h r w a b d = absurd h
-completes_so (Long seen limit) reads writes puts h r w a b d = absurd h
-completes_so (Text fault) reads writes puts h r w a b d = absurd h
-completes_so (ProgramRefused rule at seen) reads writes puts h r w a b d = absurd h
-completes_so NotBuilt reads writes puts h r w a b d = absurd h
+  pub completes_so : (t : Status) → NoneHolds (reasons c i) → NoneFailed before now out out_now → Ends c before now out out_now t → IsFinishOrWant c t
+  completes_so ReadFailed none calm e = absurd (calm.reads e.0.0)
+  completes_so WriteFailed none calm (j, its, n, inl e) = absurd (calm.writes e.0.0)
+  completes_so WriteFailed none calm (j, its, n, inr e) = absurd (calm.puts e.0.0)
+  completes_so Memory none calm e = inr refl
+  completes_so Missing none calm e = inl (answered_finish Missing none e.1)
+  completes_so (Long seen limit) none calm e = inl (answered_finish (Long seen limit) none e.1)
+  completes_so Done none calm e = inl (answered_finish Done none e)
+  completes_so (Text fault) none calm e = inl (answered_finish (Text fault) none e)
+  completes_so (ProgramRefused rule at seen) none calm e = inl (answered_finish (ProgramRefused rule at seen) none e)
+  completes_so (ImageRefused fault) none calm e = inl (answered_finish (ImageRefused fault) none e)
+  completes_so (Step line) none calm e = inl (answered_finish (Step line) none e)
+  completes_so (Message fault) none calm e = inl (answered_finish (Message fault) none e)
+  completes_so NotBuilt none calm e = inl (answered_finish NotBuilt none e)

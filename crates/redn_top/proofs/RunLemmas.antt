@@ -1,5 +1,5 @@
 -- Runs, one action after the other.
-use Rattle.std.proofs.Common.{◌≡◌, ℕ, ◌+◌, ◌<◌, true, false, cond, List, [], ◌∷◌, ◌++◌, length, take, drop, get_or, suc, refl, sym, ap, ◌∙◌, arith, append_assoc, append-nil}
+use Rattle.std.proofs.Common.{◌≡◌, ℕ, ◌+◌, ◌<◌, true, false, cond, List, [], ◌∷◌, ◌++◌, length, map, take, drop, get_or, suc, refl, sym, ap, subst, ◌∙◌, arith, append_assoc, append-nil}
 use Rattle.std.specs.Prelude.{Option, Some, None}
 use Rattle.std.specs.Option.{option_map}
 use Rattle.std.specs.List.{flat_map}
@@ -14,6 +14,11 @@ use Rattle.redn_words.specs.Runs.{AllPossible, reached, all_shown, shown_then}
 use Rattle.redn_adapter.specs.Running.{Running, stepped}
 use Rattle.redn_trace.specs.EventText.{event_text}
 use Rattle.redn_sched.specs.declared.text.Numbered.{Numbered}
+use Rattle.redn_outside.specs.Seen.{SinkSeen, PutFailed}
+use Rattle.redn_top.specs.declared.status.Status.{Status}
+use Rattle.redn_top.specs.declared.status.Status.TheVariants.{Done, ReadFailed, Missing, WriteFailed, Long, Text, Program, Image, Memory, Step, Message, NotBuilt}
+use Rattle.redn_top.specs.Refusals.{FaultsStay, PutRefused, RunRefused}
+use Rattle.redn_top.proofs.FirstReason.{rose_from}
 use Rattle.redn_top.specs.RunText.{actions_of, events_text}
 
 pub AllPossible-push : (s : State) (acts : List Action) (a : Action) → AllPossible s acts → possible (reached s acts) a ≡ true → AllPossible s (acts ++ a ∷ [])
@@ -107,6 +112,59 @@ put_nothing o told e = rw e (option_map-nothing told)
 pub actions_more : (lines : List Numbered) (k : ℕ) (d : Numbered) → k < length lines → actions_of (take (k + 1) lines) ≡ actions_of (take k lines) ++ (get_or lines k d).action ∷ []
 actions_more lines k d l = ap actions_of (take_more lines k d l) ∙ map-append (λ (y : Numbered). y.action) (take k lines) (get_or lines k d ∷ [])
 
--- the lines before, at and behind a place
-pub around : (lines : List Numbered) (k : ℕ) (d : Numbered) → k < length lines → lines ≡ take k lines ++ get_or lines k d ∷ drop (k + 1) lines
+-- what is seen of the items so far, and of one more
+pub mapped_more : {X Y : Type 0} (f : X → Y) (xs : List X) (k : ℕ) (d : X) → k < length xs → map f (take (k + 1) xs) ≡ map f (take k xs) ++ f (get_or xs k d) ∷ []
+mapped_more f xs k d l = ap (map f) (take_more xs k d l) ∙ map-append f (take k xs) (get_or xs k d ∷ [])
+
+-- the items before, at and behind a place
+pub around : {X : Type 0} (lines : List X) (k : ℕ) (d : X) → k < length lines → lines ≡ take k lines ++ get_or lines k d ∷ drop (k + 1) lines
 around lines k d l = sym (take-append-drop k lines) ∙ ap (λ r. take k lines ++ r) (drop-cons lines k d l ∙ ap (λ n. get_or lines k d ∷ drop n lines) (let e : suc k ≡ k + 1 = omega arith in e))
+
+-- the count of a sink over two calls
+pub later_faults : (before mid now : SinkSeen) → FaultsStay before mid → FaultsStay mid now → FaultsStay before now
+later_faults before mid now a b = record { faults = omega (arith, a.faults, b.faults); reliable = b.reliable ∙ a.reliable }
+
+pub faults_here : (seen : SinkSeen) → FaultsStay seen seen
+faults_here seen = record { faults = omega arith; reliable = refl }
+
+-- a put that failed after others
+pub failed_later : (before mid now : SinkSeen) → FaultsStay before mid → PutFailed mid now → PutFailed before now
+failed_later before mid now a b = (rose_from before.faults mid.faults now.faults a.faults b.0, sym a.reliable ∙ b.1)
+
+-- the put of an event's line failed
+module _ (lines : List Numbered) (k : ℕ) (d : Numbered) (inside : k < length lines) (first r : Running) (before mid now : SinkSeen) (stays : FaultsStay before mid)
+    (ran : Ran first (actions_of (take k lines)) k r before.told mid.told) (o : Obs) (next : Running) (stepped : Stepped r (get_or lines k d).action o next) where
+  pub broken_off : (s : Status) → PutRefused (event_text o) mid now s → RunRefused first.state lines before now s
+  broken_off WriteFailed h =
+      let acts = actions_of (take k lines) in
+      let here = get_or lines k d in
+      let events = events_text first.state acts in
+      let shows_it : shown (reached first.state acts) here.action ≡ o = ap (λ (x : State). shown x here.action) (sym ran.state) ∙ stepped.shows_it in
+      let can : possible (reached first.state acts) here.action ≡ true = ap (λ (x : State). possible x here.action) (sym ran.state) ∙ stepped.can in
+      let part = take h.1.0 (event_text (shown (reached first.state acts) here.action)) in (
+        failed_later before mid now stays h.0,
+        (
+          events ++ part,
+          record {
+            before = take k lines;
+            here = here;
+            behind = drop (k + 1) lines;
+            part = h.1.0;
+            lines_are = around lines k d inside;
+            all_possible = subst (AllPossible first.state) (sym (map-append (λ (y : Numbered). y.action) (take k lines) (here ∷ []))) (AllPossible-push first.state acts here.action ran.possible_so_far can);
+            text = refl;
+          },
+          h.1.1 ∙ ap (λ (x : Obs). option_map (λ text. text ++ take h.1.0 (event_text x)) mid.told) (sym shows_it) ∙ ap (option_map (λ text. text ++ part)) ran.text ∙ option_map-twice events part before.told,
+        ),
+      )
+  broken_off Memory h = absurd h
+  broken_off Done h = absurd h
+  broken_off ReadFailed h = absurd h
+  broken_off Missing h = absurd h
+  broken_off (Long seen limit) h = absurd h
+  broken_off (Text fault) h = absurd h
+  broken_off (Program rule at seen) h = absurd h
+  broken_off (Image fault) h = absurd h
+  broken_off (Step line) h = absurd h
+  broken_off (Message fault) h = absurd h
+  broken_off NotBuilt h = absurd h

@@ -1,9 +1,10 @@
--- Examples typed by hand: statuses, words, messages, places, and a run that stops.
-use Rattle.std.proofs.Common.{arith, ◌≡◌, ℕ, [], ◌∷◌, refl}
-use Rattle.std.specs.Prelude.{codes, Some}
+-- Examples typed by hand: statuses, words, messages, places, reasons, and a run that stops.
+use Rattle.std.proofs.Common.{arith, ◌≡◌, ◌<◌, ℕ, List, [], ◌∷◌, length, ap, inl, inr, refl}
+use Rattle.std.specs.Prelude.{codes, Option, Some, None}
 use Rattle.std.specs.Fmt.{digits}
 use Rattle.std.specs.FinMap as finite
 use Rattle.std.specs.FinMap.{gets}
+use Rattle.std.proofs.lemmas.List.Elements.{All-cons, All-nil}
 use Rattle.hex.specs.Hex.{decode_pairs}
 use Rattle.redn_outside.specs.Files.{Files, with_file}
 use Rattle.redn_words.specs.declared.types.Action.{Action}
@@ -14,57 +15,106 @@ use Rattle.redn_words.specs.States.{State, start}
 use Rattle.redn_words.specs.Steps.{possible, after, shown}
 use Rattle.redn_trace.specs.EventText.{event_text}
 use Rattle.redn_sched.specs.declared.text.Numbered.{Numbered}
-use Rattle.redn_kernel.specs.declared.types.Kernel.TheVariants.{Reply}
-use Rattle.redn_kernel.specs.declared.types.Word.TheVariants.{Var}
-use Rattle.redn_kernel.specs.declared.types.Program.{Program}
 use Rattle.redn_compile.specs.FirstImage.{first_image}
 use Rattle.redn_image.specs.Faithful.{start_of}
 use Rattle.redn_syntax.specs.declared.token.Token.{Token}
 use Rattle.redn_syntax.specs.declared.token.TokenKind.TheVariants.{Name}
 use Rattle.redn_top.specs.declared.status.TextFault.TheVariants.{Byte, Nesting}
-use Rattle.redn_top.specs.declared.status.Status.TheVariants.{Step, Missing, Long, Text, Program as ProgramRefused}
+use Rattle.redn_top.specs.declared.status.ImageFault.TheVariants.{Magic, Version, Rule}
+use Rattle.redn_top.specs.declared.status.MessageFault.TheVariants.{NoChain, Twice, BadHex, Length}
+use Rattle.redn_top.specs.declared.status.Status.TheVariants.{Step, Missing, Long, Text, Program as ProgramRefused, Image, Message}
 use Rattle.redn_top.specs.StatusText.{code_of, status_text}
-use Rattle.redn_top.specs.Words.{Go, IsGo, IsCheck}
+use Rattle.redn_top.specs.Words.{Command, Check, Compile, Run, Go, MessageWord, HasSmallChain, IsCommand}
+use Rattle.redn_top.specs.MessageWords.{messages, word_faults, length_faults}
+use Rattle.redn_top.specs.Reasons.{Input, IsInput, First, reasons}
 use Rattle.redn_top.specs.Sources.{token_place}
-use Rattle.redn_top.specs.Answers.{IsMessage, IsHeld, IsLong}
-use Rattle.redn_top.specs.RunText.{StopsAt, RunsToEnd}
+use Rattle.redn_top.specs.RunText.{IsCut, StopsAt, RunsToEnd}
 
-codes_of : (code_of (Step 7) ≡ 11) × (code_of Missing ≡ 16) × (code_of (Long 5 4) ≡ 5) × (code_of (Text (Byte 2)) ≡ 6) × (code_of (ProgramRefused 7 10 0) ≡ 7)
-codes_of = (refl, refl, refl, refl, refl)
+codes_of : (code_of (Step 7) ≡ 11) × (code_of Missing ≡ 16) × (code_of (Long 5 4) ≡ 5) × (code_of (Text (Byte 2)) ≡ 6) × (code_of (ProgramRefused 7 10 0) ≡ 7) × (code_of (Image Magic) ≡ 8) × (code_of (Message (Twice 0)) ≡ 12)
+codes_of = (refl, refl, refl, refl, refl, refl, refl)
 
-step_line : status_text (Step 120) ≡ codes "redn: step not possible: line 120\n"
+text_lines : (status_text (Text (Byte 0)) ≡ codes "redn: text refused: byte 0\n") × (status_text (Text (Nesting 723)) ≡ codes "redn: text refused: nesting at byte 723\n")
 unfolding digits
-step_line = refl
+text_lines = (refl, refl)
 
-long_line : status_text (Long 1048577 1048576) ≡ codes "redn: file too long: limit 1048576\n"
+other_lines : (status_text (Step 120) ≡ codes "redn: step not possible: line 120\n") × (status_text (Long 1048577 1048576) ≡ codes "redn: file too long: limit 1048576\n") × (status_text (ProgramRefused 14 65 4097) ≡ codes "redn: program refused: rule 14 at byte 65\n")
 unfolding digits
-long_line = refl
+other_lines = (refl, refl, refl)
 
-byte_line : status_text (Text (Byte 0)) ≡ codes "redn: text refused: byte 0\n"
+image_lines : (status_text (Image (Version 3)) ≡ codes "redn: image refused: version 3\n") × (status_text (Image (Rule 6 1)) ≡ codes "redn: image refused: rule 6 at 1\n")
 unfolding digits
-byte_line = refl
+image_lines = (refl, refl)
 
-nesting_line : status_text (Text (Nesting 723)) ≡ codes "redn: text refused: nesting at byte 723\n"
+message_lines : (status_text (Message (NoChain 1)) ≡ codes "redn: message refused: no chain 1\n") × (status_text (Message (BadHex 0)) ≡ codes "redn: message refused: chain 0 bad hex\n") × (status_text (Message (Length 0 1 8)) ≡ codes "redn: message refused: chain 0 has 1 bytes, wants 8\n")
 unfolding digits
-nesting_line = refl
+message_lines = (refl, refl, refl)
 
-rule_line : status_text (ProgramRefused 14 65 4097) ≡ codes "redn: program refused: rule 14 at byte 65\n"
-unfolding digits
-rule_line = refl
+-- ---- words
 
--- the words of a run
-go : Go
-go = record { file = codes "e.redn"; image = codes "e.img"; schedule = codes "s"; hex = codes "2A" }
+word : ℕ → List ℕ → MessageWord
+word chain hex = record { chain = chain; digits = hex }
 
-its_words : IsGo (codes "go" ∷ codes "e.redn" ∷ codes "e.img" ∷ codes "--schedule" ∷ codes "s" ∷ codes "0=2A" ∷ []) go
-unfolding go
-its_words = record { are = refl; file = λ e. omega arith; image = λ e. omega arith; schedule = λ e. omega arith }
+go : Command
+go = Go (codes "e.redn") (codes "e.img") (record { schedule = codes "s"; messages = word 0 (codes "2A") ∷ word 12 [] ∷ [] })
 
-check_words : IsCheck (codes "check" ∷ codes "e.redn" ∷ []) (codes "e.redn")
-check_words = record { are = refl; name = λ e. omega arith }
+its_words : IsCommand (codes "go" ∷ codes "e.redn" ∷ codes "e.img" ∷ codes "--schedule" ∷ codes "s" ∷ codes "0=2A" ∷ codes "12=" ∷ []) go
+unfolding go word digits
+its_words = record {
+  are = refl;
+  names = ((λ e. omega arith), (λ e. omega arith), ((λ e. omega arith), All-cons HasSmallChain (word 0 (codes "2A")) (word 12 [] ∷ []) (omega arith) (All-cons HasSmallChain (word 12 []) [] (omega arith) (All-nil HasSmallChain))));
+}
 
-no_option : ¬ IsCheck (codes "check" ∷ codes "-e" ∷ []) (codes "-e")
-no_option w = w.name refl
+compile_words : IsCommand (codes "compile" ∷ codes "e.redn" ∷ codes "e.img" ∷ []) (Compile (codes "e.redn") (codes "e.img"))
+compile_words = record { are = refl; names = ((λ e. omega arith), λ e. omega arith) }
+
+no_option : ¬ IsCommand (codes "check" ∷ codes "-e" ∷ []) (Check (codes "-e"))
+no_option w = w.names refl
+
+-- ---- messages of two chains
+
+second_alone : messages 2 (word 1 (codes "002a") ∷ []) ≡ None ∷ Some (0 ∷ 42 ∷ []) ∷ []
+unfolding word decode_pairs
+second_alone = refl
+
+-- no such chain, a chain twice, bad digits, and an odd number of them
+bad_words : word_faults 2 [] (word 2 [] ∷ word 1 [] ∷ word 1 [] ∷ word 0 (codes "2g") ∷ []) ≡ NoChain 2 ∷ Twice 1 ∷ BadHex 0 ∷ []
+unfolding word decode_pairs
+bad_words = refl
+
+odd_digits : word_faults 1 [] (word 0 (codes "2") ∷ []) ≡ BadHex 0 ∷ []
+unfolding word decode_pairs
+odd_digits = refl
+
+a_short_message : length_faults (record { base = 0; len = 8 } ∷ []) (Some (42 ∷ []) ∷ []) ≡ Length 0 1 8 ∷ []
+a_short_message = refl
+
+-- ---- reasons: an image of three bytes, under a schedule that isn't there
+
+found : Input
+found = record { first = Some (1 ∷ 2 ∷ 3 ∷ []); schedule = None }
+
+abbrev held_files : Files
+held_files = with_file (codes "f") (1 ∷ 2 ∷ 3 ∷ []) finite.empty
+
+run : Command
+run = Run (codes "f") (record { schedule = codes "s"; messages = [] })
+
+it_is_found : IsInput (Some held_files) run found
+unfolding run found
+it_is_found = (simp gets refl, simp gets refl)
+
+short_text : (text : List ℕ) → ◌≡◌ {A = Option (List ℕ)} (Some (1 ∷ 2 ∷ 3 ∷ [])) (Some text) → 33554432 < length text → ⊥
+short_text text e long =
+    let same : ◌≡◌ {A = List ℕ} (1 ∷ 2 ∷ 3 ∷ []) text = cc in
+    let three : ◌≡◌ {A = ℕ} 3 (length text) = ap length same in
+    omega (arith, three, long)
+
+-- that the schedule is missing is told, and not that the image is short
+the_schedule_first : First (reasons run found) Missing
+unfolding run found
+the_schedule_first = inr ((λ s h. absurd (let e = h.0 in cc)), inr ((λ s h. short_text h.0 h.1 h.2.0), inl (refl, refl)))
+
+-- ---- places and runs
 
 -- two tokens of `ab c`, and the end behind them
 letters : ℕ → ℕ → Token
@@ -73,24 +123,6 @@ letters at len = record { kind = Name; at = at; len = len; value = 0 }
 places : (token_place (codes "ab c") (letters 0 2 ∷ letters 3 1 ∷ []) 1 ≡ 3) × (token_place (codes "ab c") (letters 0 2 ∷ letters 3 1 ∷ []) 2 ≡ 4)
 unfolding letters
 places = (refl, refl)
-
--- three bytes, of which four may be read, or two
-abbrev held_files : Files
-held_files = with_file (codes "f") (1 ∷ 2 ∷ 3 ∷ []) finite.empty
-
-held : IsHeld (Some held_files) (codes "f") 4 (1 ∷ 2 ∷ 3 ∷ [])
-held = record { found = simp gets refl; fits = omega arith }
-
-too_long : IsLong (Some held_files) (codes "f") 2 3 2
-too_long = record { bytes = 1 ∷ 2 ∷ 3 ∷ []; found = simp gets refl; longer = omega arith; limit_is = refl; seen_is = refl }
-
--- chain echo { arg k; reply k; }, and its first state with the message 42
-echo : Program
-echo = record { tables = []; chains = record { args = 1; vars = 0 ∷ []; body = Reply (Var 0 ∷ []) ∷ [] } ∷ [] }
-
-its_message : IsMessage echo (codes "000000000000002A") (0 ∷ 0 ∷ 0 ∷ 0 ∷ 0 ∷ 0 ∷ 0 ∷ 42 ∷ [])
-unfolding echo decode_pairs
-its_message = record { decodes = refl; words = refl }
 
 first : State
 first = start_of (first_image (record { args = 1; words = 0 ∷ [] })) (Some (spelled 8 42) ∷ [])
@@ -106,3 +138,8 @@ the_message_again = record { before = at 1 (Deliver 0) ∷ []; here = at 4 (Deli
 a_message_alone : RunsToEnd first (at 3 (Deliver 0) ∷ []) (codes "end schedule\n")
 unfolding first at first_image spelled encoded start possible after shown event_text
 a_message_alone = record { all_possible = (refl, tt); text = refl }
+
+-- the first put failed behind five bytes of the end line
+half_an_end : IsCut first (at 3 (Deliver 0) ∷ []) (codes "end s")
+unfolding first at first_image spelled encoded start possible after shown event_text
+half_an_end = inr ((refl, tt), (5, refl))

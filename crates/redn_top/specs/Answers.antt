@@ -1,224 +1,198 @@
--- What a command answers, by the files as they stood at entry.
-use Rattle.std.specs.Prelude.{◌≡◌, ℕ, ◌+◌, ◌*◌, ◌≤◌, ◌<◌, List, [], ◌∷◌, ◌++◌, length, Option, Some, None, Result, Ok, Err, slice_get}
-use Rattle.std.specs.Option.{option_map, option_map_or}
-use Rattle.hex.specs.Hex.{decode_of}
+-- What a command answers, prints and writes, by what it finds.
+use Rattle.std.specs.Prelude.{◌≡◌, ◌⊎◌, ℕ, List, [], ◌∷◌, ◌++◌, length, take, Some, None, Result, Ok, Err}
+use Rattle.std.specs.Option.{option_map}
 use Rattle.redn_syntax.specs.declared.tree.File.{File}
 use Rattle.redn_syntax.specs.Canonical.{canonical_text}
-use Rattle.redn_kernel.specs.declared.types.ChainInit.{ChainInit}
 use Rattle.redn_kernel.specs.declared.types.Program.{Program}
 use Rattle.redn_check.specs.Rules.{Accepts}
-use Rattle.redn_compile.specs.FirstImage.{HasFirstShape}
-use Rattle.redn_outside.specs.Files.{Files, file_at, with_file}
-use Rattle.redn_image.specs.Rules.{Image}
+use Rattle.redn_outside.specs.Files.{Files, with_file, OthersStay}
+use Rattle.redn_outside.specs.Counts.{Rose}
+use Rattle.redn_outside.specs.Seen.{StoreSeen, SinkSeen, ReadFailed, WriteFailed, PutFailed, MissingRose, LongRose}
+use Rattle.redn_disasm.specs.Assembly.{Assembles, Made}
+use Rattle.redn_disasm.specs.Listing.{listing_text}
+use Rattle.redn_image.specs.Rules.{Image, numbers_of}
 use Rattle.redn_image.specs.Spelling.{Spells}
 use Rattle.redn_image.specs.Faithful.{Faithful, start_of}
 use Rattle.redn_sched.specs.declared.text.Numbered.{Numbered}
 use Rattle.redn_sched.specs.ScheduleText.{lines_of, Reads}
 use Rattle.redn_top.specs.declared.status.Status.{Status}
 use Rattle.redn_top.specs.declared.status.Status.TheVariants as status
-use Rattle.redn_top.specs.Words.{Go, IsGo, IsCheck}
-use Rattle.redn_top.specs.Sources.{IsTextOf, Means, TextRefused, RuleBroken}
-use Rattle.redn_top.specs.RunText.{RunsToEnd, StopsAt}
-use Rattle.redn_top.specs.declared.limits.TheConstants.{FILE_LIMIT, SCHEDULE_LIMIT}
-
--- this was found under a name: what is held there, where the store tells
-abbrev pub Finds : Option Files → List ℕ → Option (List ℕ) → Type 0
-Finds None name found = Unit {0}
-Finds (Some files) name found = file_at files name ≡ found
-
--- a file that is held and short enough
-pub record IsHeld (told : Option Files) (name : List ℕ) (limit : ℕ) (bytes : List ℕ) : Type 0 where
-  pub found : Finds told name (Some bytes)
-  pub fits : length bytes ≤ limit
-
--- a file that is too long: `seen` is one more than may be read
-pub record IsLong (told : Option Files) (name : List ℕ) (most seen limit : ℕ) : Type 0 where
-  pub bytes : List ℕ
-  pub found : Finds told name (Some bytes)
-  pub longer : most < length bytes
-  pub limit_is : limit ≡ most
-  pub seen_is : seen ≡ most + 1
-
--- ---- check
-
--- why the source file has no program
-abbrev pub SourceRefused : List ℕ → Status → Type 0
-SourceRefused source (status.Text fault) = TextRefused source fault
-SourceRefused source (status.Program rule at seen) = RuleBroken source rule at seen
-SourceRefused source status.Memory = Unit {0}
-SourceRefused source _ = ⊥
-
--- why a file isn't checked
-abbrev pub CheckRefused : Option Files → List ℕ → Status → Type 0
-CheckRefused told file status.Missing = Finds told file None
-CheckRefused told file (status.Long seen limit) = IsLong told file FILE_LIMIT seen limit
-CheckRefused told file (status.Text fault) = (source : List ℕ) × (IsHeld told file FILE_LIMIT source × TextRefused source fault)
-CheckRefused told file (status.Program rule at seen) = (source : List ℕ) × (IsHeld told file FILE_LIMIT source × RuleBroken source rule at seen)
-CheckRefused told file status.ReadFailed = Unit {0}
-CheckRefused told file status.Memory = Unit {0}
-CheckRefused told file _ = ⊥
-
--- the file is held, and its rules are kept
-pub record Checks (told : Option Files) (file : List ℕ) (f : File) : Type 0 where
-  pub source : List ℕ
-  pub held : IsHeld told file FILE_LIMIT source
-  pub read : IsTextOf source f
-  pub accepted : Accepts f
-
--- ---- go
-
--- how many arguments the first chain has
-abbrev pub arguments_of : Program → ℕ
-arguments_of p = option_map_or (λ (c : ChainInit). c.args) (slice_get p.chains 0) 0
-
--- digits of a message with a word for each argument of the first chain
-pub record IsMessage (p : Program) (hex message : List ℕ) : Type 0 where
-  pub decodes : decode_of hex ≡ Ok message
-  pub words : length message ≡ 8 * arguments_of p
-
--- a schedule without a bad line has these actions
-abbrev pub HasActions : List ℕ → List Numbered → Type 0
-HasActions schedule lines = Reads 1 (lines_of schedule) lines None
-
--- what is asked can be done: the program has the one shape, the message is good, and the schedule has no bad line
-pub record Plans (source schedule hex : List ℕ) (p : Program) (message : List ℕ) (lines : List Numbered) : Type 0 where
-  pub means : Means source p
-  pub shape : HasFirstShape p
-  pub good_message : IsMessage p hex message
-  pub actions : HasActions schedule lines
-
--- the program, the message or the schedule isn't one that is built
-pub data LacksPart (source schedule hex : List ℕ) : Type 0 where
-  OtherShape : (p : Program) → Means source p → ((q : Program) → Means source q → ¬ HasFirstShape q) → LacksPart source schedule hex
-  BadMessage : (p : Program) → Means source p → ((q : Program) (message : List ℕ) → Means source q → ¬ IsMessage q hex message) → LacksPart source schedule hex
-  BadLine : (p : Program) (lines : List Numbered) (bad : ℕ) → Means source p → Reads 1 (lines_of schedule) lines (Some bad) → LacksPart source schedule hex
-
--- why nothing is planned
-abbrev pub PlanRefused : List ℕ → List ℕ → List ℕ → Status → Type 0
-PlanRefused source schedule hex (status.Text fault) = TextRefused source fault
-PlanRefused source schedule hex (status.Program rule at seen) = RuleBroken source rule at seen
-PlanRefused source schedule hex status.NotBuilt = LacksPart source schedule hex
-PlanRefused source schedule hex status.Memory = Unit {0}
-PlanRefused source schedule hex _ = ⊥
-
--- both files are held and short enough
-pub record Reading (told : Option Files) (g : Go) : Type 0 where
-  pub source : List ℕ
-  pub schedule : List ℕ
-  pub source_held : IsHeld told g.file FILE_LIMIT source
-  pub schedule_held : IsHeld told g.schedule SCHEDULE_LIMIT schedule
-
--- what is asked can be done with what is held
-pub record CanRun (told : Option Files) (g : Go) (p : Program) (message : List ℕ) (lines : List Numbered) : Type 0 where
-  pub reading : Reading told g
-  pub plans : Plans reading.source reading.schedule g.hex p message lines
-
--- a file that is read isn't held
-pub data LacksFile (told : Option Files) (g : Go) : Type 0 where
-  NoSource : Finds told g.file None → LacksFile told g
-  NoSchedule : (source : List ℕ) → IsHeld told g.file FILE_LIMIT source → Finds told g.schedule None → LacksFile told g
-
--- a file that is read is too long
-pub data HasLongFile (told : Option Files) (g : Go) (seen limit : ℕ) : Type 0 where
-  LongSource : IsLong told g.file FILE_LIMIT seen limit → HasLongFile told g seen limit
-  LongSchedule : (source : List ℕ) → IsHeld told g.file FILE_LIMIT source → IsLong told g.schedule SCHEDULE_LIMIT seen limit → HasLongFile told g seen limit
-
--- why nothing is run
-abbrev pub GoRefused : Option Files → Go → Status → Type 0
-GoRefused told g status.Missing = LacksFile told g
-GoRefused told g (status.Long seen limit) = HasLongFile told g seen limit
-GoRefused told g (status.Text fault) = (r : Reading told g) × PlanRefused r.source r.schedule g.hex (status.Text fault)
-GoRefused told g (status.Program rule at seen) = (r : Reading told g) × PlanRefused r.source r.schedule g.hex (status.Program rule at seen)
-GoRefused told g status.NotBuilt = (r : Reading told g) × PlanRefused r.source r.schedule g.hex status.NotBuilt
-GoRefused told g status.ReadFailed = Unit {0}
-GoRefused told g status.Memory = Unit {0}
-GoRefused told g _ = ⊥
+use Rattle.redn_top.specs.Words.{Command, Check, Compile, Run, Go, Disasm, Assemble, RunWords, MessageWord}
+use Rattle.redn_top.specs.MessageWords.{messages}
+use Rattle.redn_top.specs.Reasons.{Input, IsInput, NoneHolds, First, reasons, message_reasons}
+use Rattle.redn_top.specs.Sources.{IsTextOf, Means}
+use Rattle.redn_top.specs.RunText.{IsCut, RunsToEnd, StopsAt}
 
 -- a file that is written: its name and its bytes
 pub record Written : Type 0 where
   pub name : List ℕ
   pub bytes : List ℕ
 
--- the bytes written under the name of the image spell an image that is faithful to the program
-pub record Compiled (g : Go) (p : Program) (image : Image) (written : List Written) : Type 0 where
+-- ---- what each command does where no reason holds
+
+-- the file is accepted, and its canonical text is printed
+pub record Checked (i : Input) (s : Status) (printed : List ℕ) (written : List Written) : Type 0 where
+  pub source : List ℕ
+  pub file : File
+  pub found : i.first ≡ Some source
+  pub read : IsTextOf source file
+  pub accepted : Accepts file
+  pub done : s ≡ status.Done
+  pub prints : printed ≡ canonical_text file
+  pub writes : written ≡ []
+
+-- the bytes written under a name spell an image that is faithful to the program that the file means
+pub record Compiled (i : Input) (name : List ℕ) (image : Image) (written : List Written) : Type 0 where
+  pub source : List ℕ
+  pub program : Program
   pub bytes : List ℕ
+  pub found : i.first ≡ Some source
+  pub means : Means source program
   pub spells : Spells bytes image
-  pub writes : written ≡ record { name = g.image; bytes = bytes } ∷ []
-  pub faithful : Faithful p image
+  pub faithful : Faithful program image
+  pub writes : written ≡ record { name = name; bytes = bytes } ∷ []
 
--- ---- commands
+-- the listing of an image is printed
+pub record Listed (i : Input) (printed : List ℕ) : Type 0 where
+  pub bytes : List ℕ
+  pub image : Image
+  pub found : i.first ≡ Some bytes
+  pub spells : Spells bytes image
+  pub prints : printed ≡ listing_text image
 
--- nothing was printed or written
-pub record Nothing (printed : List ℕ) (written : List Written) : Type 0 where
-  pub no_text : printed ≡ []
-  pub no_write : written ≡ []
+-- the bytes written under a name spell the image of a listing
+pub record Assembled (i : Input) (name : List ℕ) (written : List Written) : Type 0 where
+  pub text : List ℕ
+  pub image : Image
+  pub bytes : List ℕ
+  pub found : i.first ≡ Some text
+  pub means : Assembles text (Made (numbers_of image) image.memory)
+  pub spells : Spells bytes image
+  pub writes : written ≡ record { name = name; bytes = bytes } ∷ []
 
--- what `check` answers. Failed calls and want of memory aren't spoken of
-abbrev pub AnswersCheck : List ℕ → Option Files → Status → List ℕ → List Written → Type 0
-AnswersCheck file told status.Done printed written = (f : File) × (Checks told file f × (printed ≡ canonical_text f) × (written ≡ []))
-AnswersCheck file told s printed written = Nothing printed written × CheckRefused told file s
+-- an image is run with messages under these lines: the messages are refused, or all actions are made, or one isn't possible
+pub data RunsImage (image : Image) (words : List MessageWord) (lines : List Numbered) (s : Status) (printed : List ℕ) : Type 0 where
+  BadMessages : First (message_reasons image words) s → printed ≡ [] → RunsImage image words lines s printed
+  ToEnd : NoneHolds (message_reasons image words) → s ≡ status.Done → RunsToEnd (start_of image (messages (length image.receives) words)) lines printed → RunsImage image words lines s printed
+  Stops : (line : ℕ) → NoneHolds (message_reasons image words) → s ≡ status.Step line → StopsAt (start_of image (messages (length image.receives) words)) lines line printed → RunsImage image words lines s printed
 
--- what `go` answers
-abbrev pub AnswersGo : Go → Option Files → Status → List ℕ → List Written → Type 0
-AnswersGo g told status.Done printed written =
-    (p : Program) × ((message : List ℕ) × ((lines : List Numbered) × CanRun told g p message lines × ((image : Image) × Compiled g p image written × RunsToEnd (start_of image (Some message ∷ [])) lines printed)))
-AnswersGo g told (status.Step line) printed written =
-    (p : Program) × ((message : List ℕ) × ((lines : List Numbered) × CanRun told g p message lines × ((image : Image) × Compiled g p image written × StopsAt (start_of image (Some message ∷ [])) lines line printed)))
-AnswersGo g told s printed written = Nothing printed written × GoRefused told g s
+-- an image is run under the schedule that is found
+pub record Ran (i : Input) (r : RunWords) (image : Image) (s : Status) (printed : List ℕ) : Type 0 where
+  pub text : List ℕ
+  pub lines : List Numbered
+  pub found : i.schedule ≡ Some text
+  pub actions : Reads 1 (lines_of text) lines None
+  pub runs : RunsImage image r.messages lines s printed
 
--- no other words are built
-abbrev pub AnswersOther : Status → List ℕ → List Written → Type 0
-AnswersOther status.NotBuilt printed written = Nothing printed written
-AnswersOther _ printed written = ⊥
+-- a part of what such a run prints
+abbrev pub IsRunPart : Input → RunWords → Image → List ℕ → Type 0
+IsRunPart i r image printed =
+    (text : List ℕ) × (lines : List Numbered) × (i.schedule ≡ Some text) × Reads 1 (lines_of text) lines None × NoneHolds (message_reasons image r.messages) × IsCut (start_of image (messages (length image.receives) r.messages)) lines printed
 
--- with these words and this status, this was printed and written
-pub data Answers (words : List (List ℕ)) (told : Option Files) (s : Status) (printed : List ℕ) (written : List Written) : Type 0 where
-  OfCheck : (file : List ℕ) → IsCheck words file → AnswersCheck file told s printed written → Answers words told s printed written
-  OfGo : (g : Go) → IsGo words g → AnswersGo g told s printed written → Answers words told s printed written
-  OfOther : ((file : List ℕ) → ¬ IsCheck words file) → ((g : Go) → ¬ IsGo words g) → AnswersOther s printed written → Answers words told s printed written
+abbrev pub Finishes : Command → Input → Status → List ℕ → List Written → Type 0
+Finishes (Check file) i s printed written = Checked i s printed written
+Finishes (Compile file name) i s printed written = ((image : Image) × Compiled i name image written) × (s ≡ status.Done) × (printed ≡ [])
+Finishes (Run name r) i s printed written = ((bytes : List ℕ) × (image : Image) × (i.first ≡ Some bytes) × Spells bytes image × Ran i r image s printed) × (written ≡ [])
+Finishes (Disasm name) i s printed written = Listed i printed × (s ≡ status.Done) × (written ≡ [])
+Finishes (Assemble listing name) i s printed written = Assembled i name written × (s ≡ status.Done) × (printed ≡ [])
+Finishes (Go file name r) i s printed written = (image : Image) × Compiled i name image written × Ran i r image s printed
 
--- by the words, and by the files that are held, a command is to end with this status
-pub data Demands (words : List (List ℕ)) (files : Files) : Status → Type 0 where
-  RefusedCheck : (file : List ℕ) (s : Status) → IsCheck words file → CheckRefused (Some files) file s → Demands words files s
-  GoodCheck : (file : List ℕ) (f : File) → IsCheck words file → Checks (Some files) file f → Demands words files status.Done
-  RefusedGo : (g : Go) (s : Status) → IsGo words g → GoRefused (Some files) g s → Demands words files s
-  NoCommand : ((file : List ℕ) → ¬ IsCheck words file) → ((g : Go) → ¬ IsGo words g) → Demands words files status.NotBuilt
+-- the first reason that holds is told and nothing else is done, or no reason holds and the command does its work
+abbrev pub Answers : Command → Input → Status → List ℕ → List Written → Type 0
+Answers c i s printed written = (First (reasons c i) s × (printed ≡ []) × (written ≡ [])) ⊎ (NoneHolds (reasons c i) × Finishes c i s printed written)
 
--- a run was begun
-abbrev pub IsRun : Status → Type 0
-IsRun status.Done = Unit {0}
-IsRun (status.Step line) = Unit {0}
-IsRun _ = ⊥
-
--- a run was begun, or memory was wanting
-abbrev pub IsRunOrWant : Status → Type 0
-IsRunOrWant status.Memory = Unit {0}
-IsRunOrWant s = IsRun s
+-- ---- before and after a command
 
 -- the files after some writes
 abbrev pub with_written : List Written → Files → Files
 with_written [] files = files
 with_written (w ∷ rest) files = with_written rest (with_file w.name w.bytes files)
 
--- a status of which the answers speak
+-- what is told as held and as printed has grown by what the command answers
+pub record Answered (c : Command) (before now : StoreSeen) (out out_now : SinkSeen) (s : Status) : Type 0 where
+  pub input : Input
+  pub printed : List ℕ
+  pub written : List Written
+  pub is_input : IsInput before.told c input
+  pub answers : Answers c input s printed written
+  pub holds : now.told ≡ option_map (with_written written) before.told
+  pub prints : out_now.told ≡ option_map (λ text. text ++ printed) out.told
+
+-- nothing was printed or written, as far as it is told
+pub record Stayed (before now : StoreSeen) (out out_now : SinkSeen) : Type 0 where
+  pub holds : now.told ≡ before.told
+  pub prints : out_now.told ≡ out.told
+
+-- of what a command prints where no reason holds, this was printed before a put failed
+abbrev pub IsPart : Command → Input → List ℕ → List Written → Type 0
+IsPart (Check file) i printed written = (whole : List ℕ) × (part : ℕ) × Checked i status.Done whole written × (printed ≡ take part whole)
+IsPart (Compile file name) i printed written = ⊥
+IsPart (Run name r) i printed written = (image : Image) × ((bytes : List ℕ) × (i.first ≡ Some bytes) × Spells bytes image) × IsRunPart i r image printed × (written ≡ [])
+IsPart (Disasm name) i printed written = (rest : List ℕ) × Listed i (printed ++ rest) × (written ≡ [])
+IsPart (Assemble listing name) i printed written = ⊥
+IsPart (Go file name r) i printed written = (image : Image) × Compiled i name image written × IsRunPart i r image printed
+
+-- a put failed: as far as it is told, nothing was printed behind it
+pub record BrokeOff (c : Command) (i : Input) (before now : StoreSeen) (out out_now : SinkSeen) : Type 0 where
+  pub printed : List ℕ
+  pub written : List Written
+  pub is_part : IsPart c i printed written
+  pub holds : now.told ≡ option_map (with_written written) before.told
+  pub prints : out_now.told ≡ option_map (λ text. text ++ printed) out.told
+
+-- with its status, a command did this; of want of memory nothing is said here
+abbrev pub Ends : Command → StoreSeen → StoreSeen → SinkSeen → SinkSeen → Status → Type 0
+Ends c before now out out_now status.ReadFailed = ReadFailed before now × Stayed before now out out_now
+Ends c before now out out_now status.WriteFailed = (i : Input) × IsInput before.told c i × NoneHolds (reasons c i) × ((WriteFailed before now × (out_now.told ≡ out.told)) ⊎ (PutFailed out out_now × BrokeOff c i before now out out_now))
+Ends c before now out out_now status.Memory = Unit {0}
+Ends c before now out out_now status.Missing = MissingRose before now × Answered c before now out out_now status.Missing
+Ends c before now out out_now (status.Long seen limit) = LongRose before now × Answered c before now out out_now (status.Long seen limit)
+Ends c before now out out_now s = Answered c before now out out_now s
+
+-- whatever its status: no file changes but the one that the command writes
+abbrev pub Spares : Command → StoreSeen → StoreSeen → Type 0
+Spares (Check file) before now = now.told ≡ before.told
+Spares (Compile file name) before now = OthersStay name before.told now.told
+Spares (Run image r) before now = now.told ≡ before.told
+Spares (Go file name r) before now = OthersStay name before.told now.told
+Spares (Disasm name) before now = now.told ≡ before.told
+Spares (Assemble listing name) before now = OthersStay name before.told now.told
+
+-- a status that is no failed call and no want of memory
 abbrev pub IfSpoken : Status → Type 0 → Type 0
 IfSpoken status.ReadFailed P = Unit {0}
 IfSpoken status.WriteFailed P = Unit {0}
 IfSpoken status.Memory P = Unit {0}
 IfSpoken _ P = P
 
--- what is told as held and as printed has grown by something that was answered
-pub record Grew (held held_now : Option Files) (text text_now : Option (List ℕ)) (answered : List ℕ → List Written → Type 0) : Type 0 where
-  pub printed : List ℕ
-  pub written : List Written
-  pub answers : answered printed written
-  pub holds : held_now ≡ option_map (with_written written) held
-  pub prints : text_now ≡ option_map (λ before. before ++ printed) text
+-- how a run ends that was begun
+abbrev pub IsRunEnd : Status → Type 0
+IsRunEnd status.Done = Unit {0}
+IsRunEnd (status.Step line) = Unit {0}
+IsRunEnd (status.Message fault) = Unit {0}
+IsRunEnd _ = ⊥
 
--- nothing was printed or written, as far as it is told
-pub record Stayed (held held_now : Option Files) (text text_now : Option (List ℕ)) : Type 0 where
-  pub holds : held_now ≡ held
-  pub prints : text_now ≡ text
+-- how a command ends that does its work
+abbrev pub IsFinish : Command → Status → Type 0
+IsFinish (Check file) s = s ≡ status.Done
+IsFinish (Compile file name) s = s ≡ status.Done
+IsFinish (Run name r) s = IsRunEnd s
+IsFinish (Go file name r) s = IsRunEnd s
+IsFinish (Disasm name) s = s ≡ status.Done
+IsFinish (Assemble listing name) s = s ≡ status.Done
+
+abbrev pub IsFinishOrWant : Command → Status → Type 0
+IsFinishOrWant c s = IsFinish c s ⊎ (s ≡ status.Memory)
+
+-- the words are no command, or memory for them is wanting
+abbrev pub IsNotBuilt : Status → Type 0
+IsNotBuilt s = (s ≡ status.NotBuilt) ⊎ (s ≡ status.Memory)
+
+-- no count of faults rose
+pub record NoneFailed (before now : StoreSeen) (out out_now : SinkSeen) : Type 0 where
+  pub reads : ¬ Rose before.counts.read_faults now.counts.read_faults
+  pub writes : ¬ Rose before.counts.write_faults now.counts.write_faults
+  pub puts : ¬ Rose out.faults out_now.faults
 
 -- the status of a run
 abbrev pub status_of : Result (Unit {0}) Status → Status

@@ -1,8 +1,11 @@
--- What the parts of a command refuse.
-use Rattle.std.specs.Prelude.{◌≡◌, ℕ, List, ◌++◌, Option, Some, None}
+-- What the parts of a command refuse, and what each leaves.
+use Rattle.std.specs.Prelude.{◌≡◌, ℕ, ◌≤◌, List, [], ◌∷◌, ◌++◌, length, take, Option, Some, None}
 use Rattle.std.specs.Option.{option_map}
 use Rattle.redn_words.specs.States.{State}
 use Rattle.redn_outside.specs.Files.{Files}
+use Rattle.redn_outside.specs.Seen.{StoreSeen, SinkSeen, ReadFailed, WriteFailed, PutFailed, MissingRose, LongRose}
+use Rattle.redn_image.specs.Rules.{Image}
+use Rattle.redn_image.specs.Faithful.{start_of}
 use Rattle.redn_sched.specs.declared.text.Numbered.{Numbered}
 use Rattle.redn_sched.specs.ScheduleText.{lines_of, Reads}
 use Rattle.redn_syntax.specs.declared.tree.File.{File}
@@ -10,17 +13,49 @@ use Rattle.redn_check.specs.Faults.{fault, IsFirst}
 use Rattle.redn_check.specs.Rules.{Accepts, faults}
 use Rattle.redn_top.specs.declared.status.Status.{Status}
 use Rattle.redn_top.specs.declared.status.Status.TheVariants as status
-use Rattle.redn_top.specs.Sources.{TextRefused}
-use Rattle.redn_top.specs.RunText.{StopsAt}
-use Rattle.redn_top.specs.Answers.{Finds, IsLong}
+use Rattle.redn_top.specs.Words.{MessageWord}
+use Rattle.hex.specs.Hex.{decode_of}
+use Rattle.redn_top.specs.MessageWords.{bad_hex, messages}
+use Rattle.redn_top.specs.Sources.{TextRefused, RuleBroken}
+use Rattle.redn_top.specs.RunText.{BreaksOff, IsCut, StopsAt}
+use Rattle.redn_top.specs.Reasons.{Finds, NoneHolds, Reasons, First, message_reasons, read_reasons, two_reads}
+use Rattle.redn_top.specs.Answers.{RunsImage}
 
--- why a file of so many bytes at most wasn't read
-abbrev pub ReadRefused : Option Files → List ℕ → ℕ → Status → Type 0
-ReadRefused told name most status.Missing = Finds told name None
-ReadRefused told name most (status.Long seen limit) = IsLong told name most seen limit
-ReadRefused told name most status.ReadFailed = Unit {0}
-ReadRefused told name most status.Memory = Unit {0}
-ReadRefused told name most _ = ⊥
+-- a file that is held and short enough
+pub record IsHeld (told : Option Files) (name : List ℕ) (limit : ℕ) (bytes : List ℕ) : Type 0 where
+  pub found : Finds told name (Some bytes)
+  pub fits : length bytes ≤ limit
+
+-- why reading told no bytes, by the first of these reasons
+abbrev pub ReadsRefuse : Reasons → StoreSeen → StoreSeen → Status → Type 0
+ReadsRefuse R before now status.ReadFailed = ReadFailed before now
+ReadsRefuse R before now status.Memory = Unit {0}
+ReadsRefuse R before now status.Missing = MissingRose before now × First R status.Missing
+ReadsRefuse R before now (status.Long seen limit) = LongRose before now × First R (status.Long seen limit)
+ReadsRefuse R before now _ = ⊥
+
+-- what a read finds, where it is refused
+pub record ReadRefused (told : Option Files) (name : List ℕ) (limit : ℕ) (before now : StoreSeen) (s : Status) : Type 0 where
+  pub file : Option (List ℕ)
+  pub found : Finds told name file
+  pub refuses : ReadsRefuse (read_reasons file limit) before now s
+
+-- what two reads find, where they are refused
+pub record RunReadRefused (told : Option Files) (name : List ℕ) (limit : ℕ) (schedule : List ℕ) (before now : StoreSeen) (s : Status) : Type 0 where
+  pub file : Option (List ℕ)
+  pub lines : Option (List ℕ)
+  pub found : Finds told name file
+  pub schedule_found : Finds told schedule lines
+  pub refuses : ReadsRefuse (two_reads file limit lines) before now s
+
+-- why contents are refused, by the first of these reasons
+abbrev pub Refuses : Reasons → Status → Type 0
+Refuses R status.Memory = Unit {0}
+Refuses R (status.Text fault) = First R (status.Text fault)
+Refuses R (status.Program rule at seen) = First R (status.Program rule at seen)
+Refuses R (status.Image fault) = First R (status.Image fault)
+Refuses R status.NotBuilt = First R status.NotBuilt
+Refuses R _ = ⊥
 
 -- why a text has no tree
 abbrev pub TreeRefused : List ℕ → Status → Type 0
@@ -34,34 +69,72 @@ RulesRefused f (status.Program rule at seen) = IsFirst (fault rule at seen) (fau
 RulesRefused f status.Memory = Unit {0}
 RulesRefused f _ = ⊥
 
--- why digits are no message of so many bytes
-abbrev pub MessageRefused : ((message : List ℕ) → Type 0) → Status → Type 0
-MessageRefused IsGood status.NotBuilt = (message : List ℕ) → ¬ IsGood message
-MessageRefused IsGood status.Memory = Unit {0}
-MessageRefused IsGood _ = ⊥
+-- why a source text has no program
+abbrev pub SourceRefused : List ℕ → Status → Type 0
+SourceRefused source (status.Text fault) = TextRefused source fault
+SourceRefused source (status.Program rule at seen) = RuleBroken source rule at seen
+SourceRefused source status.Memory = Unit {0}
+SourceRefused source _ = ⊥
 
--- why a schedule has no actions
-abbrev pub ScheduleRefused : List ℕ → Status → Type 0
-ScheduleRefused text status.NotBuilt = (lines : List Numbered) × ((bad : ℕ) × Reads 1 (lines_of text) lines (Some bad))
-ScheduleRefused text status.Memory = Unit {0}
-ScheduleRefused text _ = ⊥
+-- a schedule without a bad line has these actions
+abbrev pub HasActions : List ℕ → List Numbered → Type 0
+HasActions schedule lines = Reads 1 (lines_of schedule) lines None
 
--- why a piece wasn't put
-abbrev pub PutRefused : Status → Type 0
-PutRefused status.WriteFailed = Unit {0}
-PutRefused _ = ⊥
+-- why digits are no message for a chain
+abbrev pub DigitsRefused : ℕ → List ℕ → Status → Type 0
+DigitsRefused chain digits status.Memory = Unit {0}
+DigitsRefused chain digits (status.Message fault) = bad_hex chain (decode_of digits) ≡ fault ∷ []
+DigitsRefused chain digits _ = ⊥
 
--- why a schedule wasn't run to its end, from a state, with what was told as printed before and after
-abbrev pub RunRefused : State → List Numbered → Option (List ℕ) → Option (List ℕ) → Status → Type 0
-RunRefused s lines before now (status.Step line) = (printed : List ℕ) × StopsAt s lines line printed × (now ≡ option_map (λ text. text ++ printed) before)
-RunRefused s lines before now status.WriteFailed = Unit {0}
+-- why words are no messages for so many chains
+abbrev pub WordsRefused : Reasons → Status → Type 0
+WordsRefused R status.Memory = Unit {0}
+WordsRefused R (status.Message fault) = First R (status.Message fault)
+WordsRefused R _ = ⊥
+
+-- the count of a sink doesn't fall
+pub record FaultsStay (before now : SinkSeen) : Type 0 where
+  pub faults : before.faults ≤ now.faults
+  pub reliable : now.reliable ≡ before.reliable
+
+-- a part of a piece was put
+abbrev pub PutPart : List ℕ → SinkSeen → SinkSeen → Type 0
+PutPart piece before now = (part : ℕ) × (now.told ≡ option_map (λ text. text ++ take part piece) before.told)
+
+-- why a piece wasn't put whole
+abbrev pub PutRefused : List ℕ → SinkSeen → SinkSeen → Status → Type 0
+PutRefused piece before now status.WriteFailed = PutFailed before now × PutPart piece before now
+PutRefused piece before now _ = ⊥
+
+-- a part of a text was put, piece by piece
+abbrev pub LinesRefused : List ℕ → SinkSeen → SinkSeen → Status → Type 0
+LinesRefused text before now status.WriteFailed = PutFailed before now × ((printed : List ℕ) × (rest : List ℕ) × (text ≡ printed ++ rest) × (now.told ≡ option_map (λ t. t ++ printed) before.told))
+LinesRefused text before now _ = ⊥
+
+-- why a schedule wasn't run to its end, from a state
+abbrev pub RunRefused : State → List Numbered → SinkSeen → SinkSeen → Status → Type 0
+RunRefused s lines before now (status.Step line) = (printed : List ℕ) × StopsAt s lines line printed × (now.told ≡ option_map (λ text. text ++ printed) before.told)
+RunRefused s lines before now status.WriteFailed = PutFailed before now × ((printed : List ℕ) × BreaksOff s lines printed × (now.told ≡ option_map (λ text. text ++ printed) before.told))
 RunRefused s lines before now _ = ⊥
 
--- why an image wasn't written, or not opened
-abbrev pub WriteRefused : Status → Type 0
-WriteRefused status.WriteFailed = Unit {0}
-WriteRefused status.Memory = Unit {0}
-WriteRefused _ = ⊥
+-- an image was run with messages under these lines, and this was put
+abbrev pub Printed : Image → List MessageWord → List Numbered → SinkSeen → SinkSeen → Status → Type 0
+Printed image words lines before now s = (printed : List ℕ) × RunsImage image words lines s printed × (now.told ≡ option_map (λ text. text ++ printed) before.told)
+
+-- how an image was run
+abbrev pub ImageRan : Image → List MessageWord → List Numbered → SinkSeen → SinkSeen → Status → Type 0
+ImageRan image words lines before now status.WriteFailed = PutFailed before now × NoneHolds (message_reasons image words) × ((printed : List ℕ) × IsCut (start_of image (messages (length image.receives) words)) lines printed × (now.told ≡ option_map (λ text. text ++ printed) before.told))
+ImageRan image words lines before now status.Memory = Unit {0}
+ImageRan image words lines before now status.Done = Printed image words lines before now status.Done
+ImageRan image words lines before now (status.Step line) = Printed image words lines before now (status.Step line)
+ImageRan image words lines before now (status.Message fault) = Printed image words lines before now (status.Message fault)
+ImageRan image words lines before now _ = ⊥
+
+-- why an image wasn't written
+abbrev pub WriteRefused : StoreSeen → StoreSeen → Status → Type 0
+WriteRefused before now status.WriteFailed = WriteFailed before now
+WriteRefused before now status.Memory = now ≡ before
+WriteRefused before now _ = ⊥
 
 abbrev pub OnlyMemory : Status → Type 0
 OnlyMemory status.Memory = Unit {0}

@@ -1,9 +1,9 @@
 -- What a run under a schedule prints.
-use Rattle.std.specs.Prelude.{◌≡◌, ℕ, false, List, ◌∷◌, ◌++◌, map, codes}
+use Rattle.std.specs.Prelude.{◌≡◌, ◌⊎◌, ℕ, false, take, List, [], ◌∷◌, ◌++◌, map, codes}
 use Rattle.std.specs.List.{flat_map}
 use Rattle.redn_words.specs.declared.types.Action.{Action}
 use Rattle.redn_words.specs.States.{State}
-use Rattle.redn_words.specs.Steps.{possible}
+use Rattle.redn_words.specs.Steps.{possible, shown}
 use Rattle.redn_words.specs.Runs.{AllPossible, reached, all_shown}
 use Rattle.redn_trace.specs.EventText.{event_text}
 use Rattle.redn_sched.specs.declared.text.Numbered.{Numbered}
@@ -22,6 +22,20 @@ end_schedule = codes "end schedule\n"
 pub record RunsToEnd (s : State) (lines : List Numbered) (printed : List ℕ) : Type 0 where
   pub all_possible : AllPossible s (actions_of lines)
   pub text : printed ≡ events_text s (actions_of lines) ++ end_schedule
+
+-- a put failed: the events of some actions are printed, and a part of the next one's line
+pub record BreaksOff (s : State) (lines : List Numbered) (printed : List ℕ) : Type 0 where
+  pub before : List Numbered
+  pub here : Numbered
+  pub behind : List Numbered
+  pub part : ℕ
+  pub lines_are : lines ≡ before ++ here ∷ behind
+  pub all_possible : AllPossible s (actions_of (before ++ here ∷ []))
+  pub text : printed ≡ events_text s (actions_of before) ++ take part (event_text (shown (reached s (actions_of before)) here.action))
+
+-- the same, or all events are printed and a part of the end line
+abbrev pub IsCut : State → List Numbered → List ℕ → Type 0
+IsCut s lines printed = BreaksOff s lines printed ⊎ (AllPossible s (actions_of lines) × ((part : ℕ) × (printed ≡ events_text s (actions_of lines) ++ take part end_schedule)))
 
 -- the action of that line is the first that isn't possible, and the events before it are printed
 pub record StopsAt (s : State) (lines : List Numbered) (line : ℕ) (printed : List ℕ) : Type 0 where

@@ -1,30 +1,84 @@
 -- The words of a command.
-use Rattle.std.specs.Prelude.{◌≡◌, ℕ, List, [], ◌∷◌, ◌++◌, codes}
-use Rattle.redn_top.specs.declared.words.GoWords.{GoWords}
+use Rattle.std.specs.Prelude.{◌≡◌, ℕ, ◌^◌, ◌<◌, List, [], ◌∷◌, ◌++◌, map, All, codes, decimal}
+use Rattle.redn_top.specs.declared.words.MessageWord.{MessageWord as MessageView}
+use Rattle.redn_top.specs.declared.words.RunWords.{RunWords as RunView}
+use Rattle.redn_top.specs.declared.words.Command.{Command as CommandView}
+use Rattle.redn_top.specs.declared.words.Command.TheVariants as view
 
--- `go FILE IMAGE --schedule SCHEDULE 0=HEX`, with the bytes of its names and of its digits
-pub record Go : Type 0 where
-  pub file : List ℕ
-  pub image : List ℕ
+-- `C=HEX`: a message for a chain, by its hex digits
+pub record MessageWord : Type 0 where
+  pub chain : ℕ
+  pub digits : List ℕ
+
+-- what an image is run with: the file of a schedule, and messages
+pub record RunWords : Type 0 where
   pub schedule : List ℕ
-  pub hex : List ℕ
+  pub messages : List MessageWord
+
+pub data Command : Type 0 where
+  Check : (file : List ℕ) → Command
+  Compile : (file image : List ℕ) → Command
+  Run : (image : List ℕ) (run : RunWords) → Command
+  Go : (file image : List ℕ) (run : RunWords) → Command
+  Disasm : (image : List ℕ) → Command
+  Assemble : (listing image : List ℕ) → Command
+
+-- how it is written
+abbrev pub message_text : MessageWord → List ℕ
+message_text m = decimal m.chain ++ (codes "=" ++ m.digits)
+
+abbrev pub run_texts : RunWords → List (List ℕ)
+run_texts r = codes "--schedule" ∷ r.schedule ∷ map message_text r.messages
+
+abbrev pub words_of : Command → List (List ℕ)
+words_of (Check file) = codes "check" ∷ file ∷ []
+words_of (Compile file image) = codes "compile" ∷ file ∷ image ∷ []
+words_of (Run image r) = codes "run" ∷ image ∷ run_texts r
+words_of (Go file image r) = codes "go" ∷ file ∷ image ∷ run_texts r
+words_of (Disasm image) = codes "disasm" ∷ image ∷ []
+words_of (Assemble listing image) = codes "assemble" ∷ listing ∷ image ∷ []
 
 -- a name isn't empty and is no option
 abbrev pub IsName : List ℕ → Type 0
 IsName [] = ⊥
 IsName (b ∷ rest) = ¬ (b ≡ 45)
 
-pub record IsGo (words : List (List ℕ)) (g : Go) : Type 0 where
-  pub are : words ≡ codes "go" ∷ g.file ∷ g.image ∷ codes "--schedule" ∷ g.schedule ∷ (codes "0=" ++ g.hex) ∷ []
-  pub file : IsName g.file
-  pub image : IsName g.image
-  pub schedule : IsName g.schedule
+-- the number of a chain has 32 bits
+abbrev pub HasSmallChain : MessageWord → Type 0
+HasSmallChain m = m.chain < 2 ^ 32
 
--- the words as they are kept
-abbrev pub go_view : GoWords → Go
-go_view w = record { file = w.file.now; image = w.image.now; schedule = w.schedule.now; hex = w.hex.now }
+-- a word is this message's
+pub record IsMessageWord (word : List ℕ) (m : MessageWord) : Type 0 where
+  pub text : word ≡ message_text m
+  pub small : HasSmallChain m
 
--- `check FILE`
-pub record IsCheck (words : List (List ℕ)) (file : List ℕ) : Type 0 where
-  pub are : words ≡ codes "check" ∷ file ∷ []
-  pub name : IsName file
+abbrev pub IsRun : RunWords → Type 0
+IsRun r = IsName r.schedule × All HasSmallChain r.messages
+
+abbrev pub HasNames : Command → Type 0
+HasNames (Check file) = IsName file
+HasNames (Compile file image) = IsName file × IsName image
+HasNames (Run image r) = IsName image × IsRun r
+HasNames (Go file image r) = IsName file × IsName image × IsRun r
+HasNames (Disasm image) = IsName image
+HasNames (Assemble listing image) = IsName listing × IsName image
+
+-- words mean a command
+pub record IsCommand (words : List (List ℕ)) (c : Command) : Type 0 where
+  pub are : words ≡ words_of c
+  pub names : HasNames c
+
+-- words as they are kept
+abbrev pub message_view : MessageView → MessageWord
+message_view m = record { chain = m.chain; digits = m.digits.now }
+
+abbrev pub run_view : RunView → RunWords
+run_view r = record { schedule = r.schedule.now; messages = map message_view r.messages.items }
+
+abbrev pub command_view : CommandView → Command
+command_view (view.Check file) = Check file.now
+command_view (view.Compile file image) = Compile file.now image.now
+command_view (view.Run image run) = Run image.now (run_view run)
+command_view (view.Go file image run) = Go file.now image.now (run_view run)
+command_view (view.Disasm image) = Disasm image.now
+command_view (view.Assemble listing image) = Assemble listing.now image.now

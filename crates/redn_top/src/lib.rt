@@ -2,6 +2,7 @@
 #![tactic(auto)]
 
 mod limits;
+mod messages;
 mod reading;
 mod run;
 mod source;
@@ -11,5 +12,5 @@ mod tests;
 mod top;
 mod words;
 
-pub use status::{Status, TextFault, status_code, status_line};
+pub use status::{ImageFault, MessageFault, Status, TextFault, status_code, status_line};
 pub use top::redn;

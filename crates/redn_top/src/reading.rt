@@ -1,20 +1,25 @@
 //! What is read before anything is written.
 
-ghost use Rattle.std.specs.Prelude.{◌≡◌, ◌↔◌, ◌^◌, ◌-◌, ◌*◌, ◌<◌, ◌≤◌, ℕ, List, Some, length, IsTrue, IfOk, IfErr};
-ghost use Rattle.redn_outside.specs.Counts.{Rose};
-ghost use Rattle.redn_kernel.specs.declared.types.Program.{Program};
+ghost use Rattle.std.specs.Prelude.{◌≡◌, ◌^◌, ◌-◌, ◌<◌, ◌≤◌, ℕ, List, Some, length, IfOk, IfErr, OnOk};
+ghost use Rattle.redn_outside.specs.Seen.{KeepsFiles};
 ghost use Rattle.redn_kernel.specs.Program.{IsSound};
-ghost use Rattle.redn_top.specs.StatusText.{OnReadFailed, OnMissing, OnLong};
-ghost use Rattle.redn_top.specs.Words.{go_view};
-ghost use Rattle.redn_top.specs.Answers.{IsHeld, arguments_of, IsMessage, HasActions, Plans, PlanRefused, Reading, CanRun, GoRefused};
-ghost use Rattle.redn_top.specs.Refusals.{ReadRefused, MessageRefused, ScheduleRefused};
+ghost use Rattle.redn_compile.specs.FirstImage.{HasFirstShape};
+ghost use Rattle.redn_image.specs.Spelling.{Spells, refused};
+ghost use Rattle.redn_image.specs.Answers.{SaysWhy};
+ghost use Rattle.redn_image.specs.Rules.{numbers_of};
+ghost use Rattle.redn_disasm.specs.Assembly.{Assembles, Made};
+ghost use Rattle.redn_disasm.specs.Going.{SaysWhy as MeansNoImage};
+ghost use Rattle.redn_disasm.specs.Laws.{OneMeaning};
+ghost use Rattle.redn_top.specs.Sources.{Means};
+ghost use Rattle.redn_top.specs.Reasons.{NoneHolds, also, image_reasons, line_reasons, listing_reasons, program_reasons};
+ghost use Rattle.redn_top.specs.Refusals.{HasActions, IsHeld, ReadRefused, Refuses, RunReadRefused};
 
 use crate::limits::{FILE_LIMIT, SCHEDULE_LIMIT};
 use crate::source::read_program;
-use crate::status::Status;
-use crate::words::GoWords;
-use hex::FromHexError;
+use crate::status::{ImageFault, Status, TextFault};
 use redn_compile::has_first_shape;
+use redn_disasm::{ListFault, a_text_has_one_meaning, assemble};
+use redn_image::{Image, read_image};
 use redn_kernel::Program;
 use redn_outside::{ReadFault, Store};
 use redn_sched::{Numbered, read_schedule};
@@ -29,24 +34,10 @@ pub fn read_file<S: Store>(
     limit: u64,
 ) -> Result<Vec<u8>, Status>
     requires { limit < 2 ^ 64 - 1 }
-
-    ensures told_stays { S.told store.new ≡ S.told store.old }
-    ensures held { IfOk result
-        (λ bytes. IsHeld (S.told store.old) name.now limit bytes.items) }
-    ensures refused { IfErr result (ReadRefused (S.told store.old) name.now limit) }
-
-    ensures failed { IfErr result (λ s. OnReadFailed s
-        (Rose (S.read_faults store.old) (S.read_faults store.new))) }
-    ensures missing { IfErr result (λ s. OnMissing s
-        (Rose (S.missing_answers store.old) (S.missing_answers store.new))) }
-    ensures long { IfErr result (λ s. OnLong s
-        (Rose (S.long_answers store.old) (S.long_answers store.new))) }
-    ensures read_faults_stay { S.read_faults store.old ≤ S.read_faults store.new }
-    ensures missing_answers_stay { S.missing_answers store.old ≤ S.missing_answers store.new }
-    ensures long_answers_stay { S.long_answers store.old ≤ S.long_answers store.new }
-    ensures write_faults_stay { S.write_faults store.new ≡ S.write_faults store.old }
-    ensures reliable { S.is_reliable store.old → S.is_reliable store.new }
-    ensures fails_not { IfErr result (λ s. OnReadFailed s (¬ S.is_reliable store.old)) }
+    ensures stays { KeepsFiles (S.seen store.old) (S.seen store.new) }
+    ensures held { IfOk result (λ bytes. IsHeld (S.seen store.old).told name.now limit bytes.items) }
+    ensures refused { IfErr result
+        (ReadRefused (S.seen store.old).told name.now limit (S.seen store.old) (S.seen store.new)) }
 {
     match store.read(alloc, name, limit) {
         Ok(bytes) => Ok(bytes),
@@ -57,41 +48,50 @@ pub fn read_file<S: Store>(
     }
 }
 
-/// How many arguments the first chain has.
-fn arguments(p: &Program) -> usize
-    ensures { result ≡ arguments_of p.now }
+/// A file of at most `limit` bytes, and a schedule.
+pub fn read_two<S: Store>(
+    alloc: Global,
+    store: &mut S,
+    name: &str,
+    limit: u64,
+    schedule: &str,
+) -> Result<(Vec<u8>, Vec<u8>), Status>
+    requires { limit < 2 ^ 64 - 1 }
+    ensures stays { KeepsFiles (S.seen store.old) (S.seen store.new) }
+    ensures held { IfOk result (λ files. IsHeld (S.seen store.old).told name.now limit files.0.items) }
+    ensures schedule_held { IfOk result
+        (λ files. IsHeld (S.seen store.old).told schedule.now SCHEDULE_LIMIT files.1.items) }
+    ensures refused { IfErr result (RunReadRefused (S.seen store.old).told name.now limit schedule.now
+        (S.seen store.old) (S.seen store.new)) }
 {
-    match p.chains.as_slice().first() {
-        Some(chain) => usize::from(chain.args),
-        None => 0,
-    }
+    let first = read_file(alloc, store, name, limit)?;
+    let second = read_file(alloc, store, schedule, SCHEDULE_LIMIT)?;
+    Ok((first, second))
 }
 
-/// Whether so many bytes are a word of 8 bytes for each argument.
-fn has_words(len: usize, args: usize) -> bool
-    ensures { IsTrue result ↔ (len ≡ 8 * args) }
+/// The program of a source text, where it has the one shape that is compiled.
+pub fn first_program(alloc: Global, text: &[u8]) -> Result<Program, Status>
+    requires { length text.now ≤ FILE_LIMIT }
+    ensures means { IfOk result (Means text.now) }
+    ensures sound { IfOk result IsSound }
+    ensures shape { IfOk result HasFirstShape }
+    ensures accepted { OnOk result (NoneHolds (program_reasons (Some text.now))) }
+    ensures refused { IfErr result (Refuses (program_reasons (Some text.now))) }
 {
-    len % 8 == 0 && len / 8 == args
-}
-
-/// The message that the digits spell, where it has a word for each argument.
-fn message_of(alloc: Global, p: &Program, digits: &[u8]) -> Result<Vec<u8>, Status>
-    ensures message { IfOk result (λ message. IsMessage p.now digits.now message.items) }
-    ensures refused { IfErr result (MessageRefused (IsMessage p.now digits.now)) }
-{
-    match hex::decode(alloc, digits) {
-        Ok(message) if has_words(message.len(), arguments(p)) => Ok(message),
-        Ok(_) => Err(Status::NotBuilt),
-        Err(FromHexError::OutOfMemory) => Err(Status::Memory),
-        Err(_) => Err(Status::NotBuilt),
+    let program = read_program(alloc, text)?;
+    if has_first_shape(&program) {
+        Ok(program)
+    } else {
+        Err(Status::NotBuilt)
     }
 }
 
 /// The actions of a schedule without a bad line.
-fn actions_of(alloc: Global, text: &[u8]) -> Result<Vec<Numbered>, Status>
+fn schedule_lines(alloc: Global, text: &[u8]) -> Result<Vec<Numbered>, Status>
     requires { length text.now ≤ SCHEDULE_LIMIT }
     ensures actions { IfOk result (λ lines. HasActions text.now lines.items) }
-    ensures refused { IfErr result (ScheduleRefused text.now) }
+    ensures accepted { OnOk result (NoneHolds (line_reasons (Some text.now))) }
+    ensures refused { IfErr result (Refuses (line_reasons (Some text.now))) }
 {
     match read_schedule(alloc, text) {
         Ok(schedule) if schedule.bad.is_none() => Ok(schedule.actions),
@@ -100,55 +100,94 @@ fn actions_of(alloc: Global, text: &[u8]) -> Result<Vec<Numbered>, Status>
     }
 }
 
-/// What is to be run: a program, the message of its one chain, and a schedule's actions.
-#[derive(Drop)]
-pub struct Job {
-    pub program: Program,
-    pub message: Vec<u8>,
-    pub lines: Vec<Numbered>,
+/// How it is told that bytes spell no image.
+fn refused_image(fault: redn_image::ImageFault) -> Status
+    ensures { (bytes : List ℕ) → SaysWhy (refused bytes) fault → Refuses (image_reasons (Some bytes)) result }
+{
+    let told = match fault {
+        redn_image::ImageFault::Magic => ImageFault::Magic,
+        redn_image::ImageFault::Version { v } => ImageFault::Version { v },
+        redn_image::ImageFault::Short { need } => ImageFault::Short { need },
+        redn_image::ImageFault::Trailing { n } => ImageFault::Trailing { n },
+        redn_image::ImageFault::Rule { number, index } => ImageFault::Rule { number, index },
+        redn_image::ImageFault::Memory => return Status::Memory,
+    };
+    Status::Image(told)
 }
 
-/// What is to be run, by the contents of the two files and the digits of the message.
-fn plan(alloc: Global, source: &[u8], schedule: &[u8], hex: &[u8]) -> Result<Job, Status>
+/// The image that bytes spell.
+pub fn image_in(alloc: Global, bytes: &[u8]) -> Result<Image, Status>
+    ensures spells { IfOk result (λ image. Spells bytes.now image) }
+    ensures accepted { OnOk result (NoneHolds (image_reasons (Some bytes.now))) }
+    ensures refused { IfErr result (Refuses (image_reasons (Some bytes.now))) }
+{
+    match read_image(alloc, bytes) {
+        Ok(image) => Ok(image),
+        Err(fault) => Err(refused_image(fault)),
+    }
+}
+
+/// How it is told that a listing has no image.
+fn refused_listing(fault: ListFault) -> Status
+    ensures { OneMeaning → (text : List ℕ) → MeansNoImage text fault → Refuses (listing_reasons (Some text)) result }
+{
+    match fault {
+        ListFault::Line { line } => Status::Text(TextFault::Line { line }),
+        ListFault::Rule { number, index } => Status::Image(ImageFault::Rule { number, index }),
+        ListFault::Memory => Status::Memory,
+    }
+}
+
+/// The image of a listing.
+pub fn image_of_listing(alloc: Global, text: &[u8]) -> Result<Image, Status>
+    ensures means { IfOk result (λ i. Assembles text.now (Made (numbers_of i) i.memory)) }
+    ensures accepted { OnOk result (NoneHolds (listing_reasons (Some text.now))) }
+    ensures refused { IfErr result (Refuses (listing_reasons (Some text.now))) }
+{
+    a_text_has_one_meaning();
+    match assemble(alloc, text) {
+        Ok(image) => Ok(image),
+        Err(fault) => Err(refused_listing(fault)),
+    }
+}
+
+/// The program of a source text and the actions of a schedule.
+pub fn plan_go(
+    alloc: Global,
+    source: &[u8],
+    schedule: &[u8],
+) -> Result<(Program, Vec<Numbered>), Status>
     requires source_fits { length source.now ≤ FILE_LIMIT }
     requires schedule_fits { length schedule.now ≤ SCHEDULE_LIMIT }
-    ensures plans { IfOk result (λ job. Plans source.now schedule.now hex.now
-        job.program job.message.items job.lines.items) }
-    ensures sound { IfOk result (λ job. IsSound job.program) }
-    ensures refused { IfErr result (PlanRefused source.now schedule.now hex.now) }
+    ensures means { IfOk result (λ plan. Means source.now plan.0) }
+    ensures sound { IfOk result (λ plan. IsSound plan.0) }
+    ensures shape { IfOk result (λ plan. HasFirstShape plan.0) }
+    ensures actions { IfOk result (λ plan. HasActions schedule.now plan.1.items) }
+    ensures accepted { OnOk result
+        (NoneHolds (also (program_reasons (Some source.now)) (line_reasons (Some schedule.now)))) }
+    ensures refused { IfErr result
+        (Refuses (also (program_reasons (Some source.now)) (line_reasons (Some schedule.now)))) }
 {
-    let program = read_program(alloc, source)?;
-    if !has_first_shape(&program) {
-        return Err(Status::NotBuilt);
-    }
-    let message = message_of(alloc, &program, hex)?;
-    let lines = actions_of(alloc, schedule)?;
-    Ok(Job {
-        program,
-        message,
-        lines,
-    })
+    let program = first_program(alloc, source)?;
+    let lines = schedule_lines(alloc, schedule)?;
+    Ok((program, lines))
 }
 
-/// Reads the two files, and tells what is to be run.
-pub fn prepare<S: Store>(alloc: Global, go: &GoWords<'_>, store: &mut S) -> Result<Job, Status>
-    ensures told_stays { S.told store.new ≡ S.told store.old }
-    ensures can_run { IfOk result (λ job. CanRun (S.told store.old) (go_view go.now)
-        job.program job.message.items job.lines.items) }
-    ensures sound { IfOk result (λ job. IsSound job.program) }
-    ensures refused { IfErr result (GoRefused (S.told store.old) (go_view go.now)) }
-
-    ensures failed { IfErr result (λ s. OnReadFailed s
-        (Rose (S.read_faults store.old) (S.read_faults store.new))) }
-    ensures missing { IfErr result (λ s. OnMissing s
-        (Rose (S.missing_answers store.old) (S.missing_answers store.new))) }
-    ensures long { IfErr result (λ s. OnLong s
-        (Rose (S.long_answers store.old) (S.long_answers store.new))) }
-    ensures write_faults_stay { S.write_faults store.new ≡ S.write_faults store.old }
-    ensures reliable { S.is_reliable store.old → S.is_reliable store.new }
-    ensures fails_not { IfErr result (λ s. OnReadFailed s (¬ S.is_reliable store.old)) }
+/// The image that bytes spell and the actions of a schedule.
+pub fn plan_run(
+    alloc: Global,
+    bytes: &[u8],
+    schedule: &[u8],
+) -> Result<(Image, Vec<Numbered>), Status>
+    requires { length schedule.now ≤ SCHEDULE_LIMIT }
+    ensures spells { IfOk result (λ plan. Spells bytes.now plan.0) }
+    ensures actions { IfOk result (λ plan. HasActions schedule.now plan.1.items) }
+    ensures accepted { OnOk result
+        (NoneHolds (also (image_reasons (Some bytes.now)) (line_reasons (Some schedule.now)))) }
+    ensures refused { IfErr result
+        (Refuses (also (image_reasons (Some bytes.now)) (line_reasons (Some schedule.now)))) }
 {
-    let source = read_file(alloc, store, go.file, FILE_LIMIT)?;
-    let schedule = read_file(alloc, store, go.schedule, SCHEDULE_LIMIT)?;
-    plan(alloc, &source, &schedule, go.hex)
+    let image = image_in(alloc, bytes)?;
+    let lines = schedule_lines(alloc, schedule)?;
+    Ok((image, lines))
 }

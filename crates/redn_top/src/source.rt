@@ -11,8 +11,7 @@ ghost use Rattle.redn_syntax.specs.Canonical.{canonical_text};
 ghost use Rattle.redn_check.specs.Rules.{Accepts};
 ghost use Rattle.redn_check.specs.Numbering.{program_of};
 ghost use Rattle.redn_top.specs.Sources.{IsTextOf, Means, token_place};
-ghost use Rattle.redn_top.specs.Answers.{SourceRefused};
-ghost use Rattle.redn_top.specs.Refusals.{TreeRefused, RulesRefused};
+ghost use Rattle.redn_top.specs.Refusals.{SourceRefused, TreeRefused, RulesRefused};
 
 use crate::limits::FILE_LIMIT;
 use crate::status::{Status, TextFault};

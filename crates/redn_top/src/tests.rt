@@ -1,20 +1,22 @@
-use crate::source::read_program;
-use crate::status::{Status, TextFault, status_code, status_line};
+mod adapter;
+mod calls;
+mod graphs;
+mod images;
+mod listings;
+
+use crate::status::{ImageFault, MessageFault, Status, TextFault, status_code, status_line};
 use crate::top::redn;
-use redn_graph::graph;
 use redn_outside::{MemSink, MemStore};
-use redn_region::{Regions, RegionsFault};
-use redn_words::{Class, Kind, Memory, Need, Opcode, Region, Request, Spot};
-use redn_wqe::{Field, WRITE, class, decode, encode, field_at, is_signalled, opcode};
+use redn_words::Memory;
 use std::alloc::Global;
 use std::fmt::Write;
 use std::test::Fail;
 
-const ECHO: &[u8] = b"chain echo { arg k; reply k; }";
+pub const ECHO: &[u8] = b"chain echo { arg k; reply k; }";
 
 const MESSAGE: &str = "0=000000000000002a";
 
-const IN_ORDER: &[u8] =
+pub const IN_ORDER: &[u8] =
     b"d 0\nf 0 0\ns 0\nf 0 1\ns 0\nl 0 1\nc 0\nf 0 2\ns 0\nf 0 3\ns 0\nl 0 3\nc 0\nf 0 4\ns 0\n\
     f 0 5\ns 0\nl 0 5\n";
 
@@ -22,21 +24,21 @@ const PREFETCHED: &[u8] =
     b"f 0 0\nf 0 1\nf 0 2\nf 0 3\nf 0 4\nf 0 5\nd 0\ns 0\ns 0\nl 0 1\nc 0\ns 0\ns 0\nl 0 3\n\
     c 0\ns 0\ns 0\nl 0 5\n";
 
-const PRINTED: &[u8] = b"set 0 0 42\nreply 0 42\nend schedule\n";
+pub const PRINTED: &[u8] = b"set 0 0 42\nreply 0 42\nend schedule\n";
 
 /// The status, what was printed, and how many bytes of an image stand in the store.
 #[derive(Drop)]
-struct Outcome {
-    status: Status,
-    printed: Vec<u8>,
-    image: Option<usize>,
+pub struct Outcome {
+    pub status: Status,
+    pub printed: Vec<u8>,
+    pub image: Option<usize>,
 }
 
 fn numbers(alloc: Global, list: &[u64]) -> Result<Vec<u64>, Memory> {
     Ok(Vec::from_slice(alloc, list)?)
 }
 
-fn with_words(
+pub fn with_words(
     alloc: Global,
     list: &[&str],
     store: &mut MemStore,
@@ -275,31 +277,27 @@ fn a_source_is_refused_in_this_order(rt: HostRuntime) -> Result<(), Fail> {
 }
 
 #[test]
-fn other_words_and_messages_are_not_built(rt: HostRuntime) -> Result<(), Fail> {
+fn other_words_are_not_built(rt: HostRuntime) -> Result<(), Fail> {
     let alloc = rt.alloc();
-    let refused: [&[&str]; 9] = [
+    let refused: [&[&str]; 12] = [
         &[],
         &["check"],
         &["check", "-e.redn"],
         &["check", "e.redn", "e.redn"],
         &["run", "e.redn", "e.img", "--schedule", "s.txt", MESSAGE],
+        &["run", "e.img", "--schedule"],
+        &["compile", "e.redn"],
         &["go", "", "e.img", "--schedule", "s.txt", MESSAGE],
         &["go", "e.redn", "e.img", "--fair", "1000", MESSAGE],
+        &["go", "e.redn", "e.img", "--schedule", "s.txt", "00=00"],
+        &["go", "e.redn", "e.img", "--schedule", "s.txt", "0"],
         &[
             "go",
             "e.redn",
             "e.img",
             "--schedule",
             "s.txt",
-            "1=000000000000002a",
-        ],
-        &[
-            "go",
-            "e.redn",
-            "e.img",
-            "--schedule",
-            "s.txt",
-            "0=00000000000000",
+            "4294967296=00",
         ],
     ];
     for words in refused {
@@ -366,17 +364,6 @@ fn texts_without_a_tree_are_refused(rt: HostRuntime) -> Result<(), Fail> {
     nested.push_str("reply 1; }")?;
     let outcome = check(alloc, nested.as_bytes())?;
     assert_eq!(rt; outcome.status, Status::Done);
-    Ok(())
-}
-
-#[test]
-fn a_chain_has_its_blocks(rt: HostRuntime) -> Result<(), Fail> {
-    let alloc = rt.alloc();
-    let text = b"table t[24] ro = { 5, 6, 5 }; chain c { var p; var x; var n; loop { \
-        x = t[p]; p += 8; if x ~ 5 { n += 1; } if p ~ 24 { reply n; } } }";
-    let p = read_program(alloc, text)?;
-    let graph = graph(alloc, &p, 0)?;
-    assert!(rt; !graph.blocks.as_slice().is_empty());
     Ok(())
 }
 
@@ -521,7 +508,7 @@ fn a_source_above_its_limit_is_too_long(rt: HostRuntime) -> Result<(), Fail> {
 
 #[test]
 fn each_status_has_its_code_and_its_line(rt: HostRuntime) -> Result<(), Fail> {
-    let table: [(Status, u8, &[u8]); 11] = [
+    let table: [(Status, u8, &[u8]); 21] = [
         (Status::Done, 0, b""),
         (Status::ReadFailed, 3, b"redn: read failed\n"),
         (Status::WriteFailed, 4, b"redn: write failed\n"),
@@ -544,6 +531,11 @@ fn each_status_has_its_code_and_its_line(rt: HostRuntime) -> Result<(), Fail> {
             b"redn: text refused: nesting at byte 723\n",
         ),
         (
+            Status::Text(TextFault::Line { line: 11 }),
+            6,
+            b"redn: text refused: line 11\n",
+        ),
+        (
             Status::Program {
                 rule: 14,
                 at: 28_689,
@@ -552,7 +544,59 @@ fn each_status_has_its_code_and_its_line(rt: HostRuntime) -> Result<(), Fail> {
             7,
             b"redn: program refused: rule 14 at byte 28689\n",
         ),
+        (
+            Status::Image(ImageFault::Magic),
+            8,
+            b"redn: image refused: magic\n",
+        ),
+        (
+            Status::Image(ImageFault::Version { v: 3 }),
+            8,
+            b"redn: image refused: version 3\n",
+        ),
+        (
+            Status::Image(ImageFault::Short { need: 336 }),
+            8,
+            b"redn: image refused: short 336\n",
+        ),
+        (
+            Status::Image(ImageFault::Trailing { n: 1 }),
+            8,
+            b"redn: image refused: trailing 1\n",
+        ),
+        (
+            Status::Image(ImageFault::Rule {
+                number: 6,
+                index: 1,
+            }),
+            8,
+            b"redn: image refused: rule 6 at 1\n",
+        ),
         (Status::Memory, 9, b"redn: out of memory\n"),
+        (
+            Status::Message(MessageFault::NoChain { chain: 1 }),
+            12,
+            b"redn: message refused: no chain 1\n",
+        ),
+        (
+            Status::Message(MessageFault::Twice { chain: 0 }),
+            12,
+            b"redn: message refused: chain 0 twice\n",
+        ),
+        (
+            Status::Message(MessageFault::BadHex { chain: 0 }),
+            12,
+            b"redn: message refused: chain 0 bad hex\n",
+        ),
+        (
+            Status::Message(MessageFault::Length {
+                chain: 0,
+                got: 1,
+                want: 8,
+            }),
+            12,
+            b"redn: message refused: chain 0 has 1 bytes, wants 8\n",
+        ),
         (
             Status::Step { line: u64::MAX },
             11,
@@ -567,51 +611,5 @@ fn each_status_has_its_code_and_its_line(rt: HostRuntime) -> Result<(), Fail> {
         assert_eq!(rt; &buf[..len], text);
         assert_eq!(rt; status_code(&status), code);
     }
-    Ok(())
-}
-
-#[test]
-fn a_request_is_read_from_its_slot(rt: HostRuntime) {
-    let request = Request {
-        op: WRITE,
-        id: 5,
-        lkey: 1,
-        rkey: 2,
-        local: 8,
-        remote: 16,
-        length: 8,
-        first: 0,
-        second: 0,
-        flags: 1,
-    };
-    let slot = encode(&request);
-    let place = field_at(Field::Remote) as usize;
-    assert_eq!(rt; decode(&slot), request);
-    assert_eq!(rt; opcode(&request), Opcode::Write);
-    assert_eq!(rt; class(&request), Class::Flies);
-    assert!(rt; is_signalled(&request));
-    assert_eq!(rt; slot[place + 7], 16);
-}
-
-#[test]
-fn a_region_is_found_by_its_key(rt: HostRuntime) -> Result<(), Fail> {
-    let alloc = rt.alloc();
-    let row = Region {
-        key: 7,
-        domain: 0,
-        kind: Kind::Code,
-        rights: 4,
-        base: 64,
-        len: 64,
-    };
-    let regions = Regions::new(alloc, vec![in alloc; row]?)?;
-    let spot = Spot {
-        at: 72,
-        kind: Kind::Code,
-    };
-    assert_eq!(rt; regions.row(3), None);
-    assert_eq!(rt; regions.allowed(0, 7, 8, 8, Need::RemoteWrite), Ok(spot));
-    let twice = Regions::new(alloc, vec![in alloc; row, row]?);
-    assert_eq!(rt; twice.err(), Some(RegionsFault::Repeated { index: 1 }));
     Ok(())
 }

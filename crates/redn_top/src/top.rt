@@ -1,33 +1,28 @@
 //! The commands.
 
-ghost use Rattle.std.specs.Prelude.{◌≡◌, ◌⊎◌, ◌≤◌, ℕ, List, Some, [], ◌∷◌, ◌++◌, length, map, string_bytes, IfOk, IfErr, OnOk};
+ghost use Rattle.std.specs.Prelude.{◌≡◌, ◌^◌, ◌<◌, List, ℕ, Some, IfErr, OnOk, map, string_bytes};
 ghost use Rattle.std.specs.Option.{option_map};
-ghost use Rattle.redn_words.specs.declared.types.Receive.{Receive};
-ghost use Rattle.redn_syntax.specs.declared.tree.File.{File};
-ghost use Rattle.redn_syntax.specs.Canonical.{canonical_text};
-ghost use Rattle.redn_kernel.specs.declared.types.Program.{Program};
-ghost use Rattle.redn_outside.specs.Counts.{Rose};
-ghost use Rattle.redn_outside.specs.Files.{Files, with_file};
+ghost use Rattle.redn_outside.specs.Files.{Files, OthersStay, with_file};
 ghost use Rattle.redn_image.specs.Spelling.{Spells};
-ghost use Rattle.redn_adapter.specs.Opening.{opened};
-ghost use Rattle.redn_top.specs.StatusText.{code_of, OnReadFailed, OnWriteFailed, OnMissing, OnLong};
-ghost use Rattle.redn_sched.specs.declared.text.Numbered.{Numbered};
+ghost use Rattle.redn_top.specs.StatusText.{code_of};
 ghost use Rattle.redn_top.specs.declared.status.Status.{Status};
-ghost use Rattle.redn_top.specs.Words.{Go, go_view, IsGo};
-ghost use Rattle.redn_top.specs.Answers.{Answers, AnswersCheck, AnswersGo, CanRun, Checks, CheckRefused, Demands, IsRun, IsRunOrWant, IfSpoken, Grew, Stayed, status_of};
-ghost use Rattle.redn_top.specs.Refusals.{WriteRefused, OnlyMemory};
+ghost use Rattle.redn_top.specs.Words.{Command as CommandValue, Check, Compile, Run, Go, Disasm, Assemble, IsCommand, command_view, run_view};
+ghost use Rattle.redn_top.specs.Reasons.{Input, IsInput, First, NoneHolds, reasons};
+ghost use Rattle.redn_top.specs.Answers.{Ends, IfSpoken, IsFinish, IsFinishOrWant, IsNotBuilt, NoneFailed, Spares, Stayed, status_of};
+ghost use Rattle.redn_top.specs.Refusals.{WriteRefused};
 
-use crate::limits::FILE_LIMIT;
-use crate::reading::{Job, prepare, read_file};
-use crate::run::{put, run};
+use crate::limits::{FILE_LIMIT, IMAGE_LIMIT, LISTING_LIMIT};
+use crate::reading::{
+    first_program, image_in, image_of_listing, plan_go, plan_run, read_file, read_two,
+};
+use crate::run::{put, put_lines, run_image};
 use crate::source::checked_text;
 use crate::status::Status;
-use crate::words::{GoWords, check_of, go_of};
-use redn_adapter::{Adapter, OpenFault, open};
+use crate::words::{Command, RunWords, WordsFault, command_of};
 use redn_compile::compile;
+use redn_disasm::listing;
 use redn_image::{Image, write_image};
 use redn_outside::{Sink, Store, WriteFault};
-use redn_words::{Memory, Messages};
 use std::alloc::Global;
 
 /// Writes the bytes of an image under a name.
@@ -37,21 +32,12 @@ fn write_out<S: Store>(
     image: &Image,
     store: &mut S,
 ) -> Result<(), Status>
+    ensures spares { OthersStay name.now (S.seen store.old).told (S.seen store.new).told }
     ensures wrote { OnOk result ((bytes : List ℕ) × Spells bytes image.now ×
-        (S.told store.new ≡ option_map (with_file name.now bytes) (S.told store.old))) }
-    ensures refused { IfErr result WriteRefused }
-    ensures failed { IfErr result (λ s. OnWriteFailed s
-        (Rose (S.write_faults store.old) (S.write_faults store.new))) }
-    ensures write_faults_stay { S.write_faults store.old ≤ S.write_faults store.new }
-    ensures read_faults_stay { S.read_faults store.new ≡ S.read_faults store.old }
-    ensures missing_answers_stay { S.missing_answers store.new ≡ S.missing_answers store.old }
-    ensures reliable { S.is_reliable store.old → S.is_reliable store.new }
-    ensures fails_not { IfErr result (λ s. OnWriteFailed s (¬ S.is_reliable store.old)) }
+        ((S.seen store.new).told ≡ option_map (with_file name.now bytes) (S.seen store.old).told)) }
+    ensures refused { IfErr result (WriteRefused (S.seen store.old) (S.seen store.new)) }
 {
-    let bytes = match write_image(alloc, image) {
-        Ok(bytes) => bytes,
-        Err(Memory) => return Err(Status::Memory),
-    };
+    let bytes = write_image(alloc, image)?;
     match store.write(alloc, name, &bytes) {
         Ok(()) => Ok(()),
         Err(WriteFault::Failed) => Err(Status::WriteFailed),
@@ -59,93 +45,109 @@ fn write_out<S: Store>(
     }
 }
 
-/// Opens an image of one chain with its message.
-fn open_with(alloc: Global, image: Image, message: Vec<u8>) -> Result<Adapter, Status>
-    requires { map (λ (r : Receive). r.len) image.receives ≡ length message.items ∷ [] }
-    ensures opened { IfOk result (λ a. a ≡ opened image (Some message.items ∷ [])) }
-    ensures refused { IfErr result OnlyMemory }
-{
-    let list = match vec![in alloc; Some(message)] {
-        Ok(list) => list,
-        Err(_) => return Err(Status::Memory),
-    };
-    match open(alloc, image, Messages { list }) {
-        Ok(adapter) => Ok(adapter),
-        Err(OpenFault::Memory) => Err(Status::Memory),
-        Err(OpenFault::Message { .. }) => unreachable!(),
-    }
-}
-
-/// Runs the command `go`.
-fn run_go<S: Store, K: Sink>(
-    alloc: Global,
-    go: &GoWords<'_>,
-    store: &mut S,
-    out: &mut K,
-) -> Result<(), Status>
-    ensures answers { IfSpoken (status_of result) (Grew (S.told store.old) (S.told store.new)
-        (K.told out.old) (K.told out.new) (AnswersGo (go_view go.now) (S.told store.old) (status_of result))) }
-    ensures read_failed { OnReadFailed (status_of result)
-        (Rose (S.read_faults store.old) (S.read_faults store.new)) }
-    ensures read_nothing { OnReadFailed (status_of result)
-        (Stayed (S.told store.old) (S.told store.new) (K.told out.old) (K.told out.new)) }
-    ensures missing { OnMissing (status_of result)
-        (Rose (S.missing_answers store.old) (S.missing_answers store.new)) }
-    ensures long { OnLong (status_of result)
-        (Rose (S.long_answers store.old) (S.long_answers store.new)) }
-    ensures write_failed { OnWriteFailed (status_of result)
-        (Rose (S.write_faults store.old) (S.write_faults store.new)
-        ⊎ Rose (K.faults out.old) (K.faults out.new)) }
-    ensures reliable { S.is_reliable store.old → S.is_reliable store.new }
-    ensures reliable_sink { K.is_reliable out.old → K.is_reliable out.new }
-    ensures reads { OnReadFailed (status_of result) (¬ S.is_reliable store.old) }
-    ensures writes { OnWriteFailed (status_of result)
-        (S.is_reliable store.old → K.is_reliable out.old → ⊥) }
-{
-    let Job {
-        program,
-        message,
-        lines,
-    } = prepare(alloc, go, store)?;
-    let image = match compile(alloc, &program) {
-        Ok(image) => image,
-        Err(Memory) => return Err(Status::Memory),
-    };
-    write_out(alloc, go.image, &image, store)?;
-    let mut adapter = open_with(alloc, image, message)?;
-    run(&mut adapter, &lines, out)?;
-    put(out, b"end schedule\n")
-}
-
-/// Runs the command `check`.
+/// Prints the canonical text of a source file.
 fn run_check<S: Store, K: Sink>(
     alloc: Global,
     file: &str,
     store: &mut S,
     out: &mut K,
 ) -> Result<(), Status>
-    ensures answers { IfSpoken (status_of result) (Grew (S.told store.old) (S.told store.new)
-        (K.told out.old) (K.told out.new) (AnswersCheck file.now (S.told store.old) (status_of result))) }
-    ensures read_failed { OnReadFailed (status_of result)
-        (Rose (S.read_faults store.old) (S.read_faults store.new)) }
-    ensures read_nothing { OnReadFailed (status_of result)
-        (Stayed (S.told store.old) (S.told store.new) (K.told out.old) (K.told out.new)) }
-    ensures missing { OnMissing (status_of result)
-        (Rose (S.missing_answers store.old) (S.missing_answers store.new)) }
-    ensures long { OnLong (status_of result)
-        (Rose (S.long_answers store.old) (S.long_answers store.new)) }
-    ensures write_failed { OnWriteFailed (status_of result)
-        (Rose (S.write_faults store.old) (S.write_faults store.new)
-        ⊎ Rose (K.faults out.old) (K.faults out.new)) }
-    ensures reliable { S.is_reliable store.old → S.is_reliable store.new }
-    ensures reliable_sink { K.is_reliable out.old → K.is_reliable out.new }
-    ensures reads { OnReadFailed (status_of result) (¬ S.is_reliable store.old) }
-    ensures writes { OnWriteFailed (status_of result)
-        (S.is_reliable store.old → K.is_reliable out.old → ⊥) }
+    ensures ends { Ends (Check file.now) (S.seen store.old) (S.seen store.new)
+        (K.seen out.old) (K.seen out.new) (status_of result) }
+    ensures spares { Spares (Check file.now) (S.seen store.old) (S.seen store.new) }
 {
     let source = read_file(alloc, store, file, FILE_LIMIT)?;
     let text = checked_text(alloc, &source)?;
     put(out, &text)
+}
+
+/// Writes the image of a source file.
+fn run_compile<S: Store, K: Sink>(
+    alloc: Global,
+    file: &str,
+    name: &str,
+    store: &mut S,
+    out: &mut K,
+) -> Result<(), Status>
+    ensures ends { Ends (Compile file.now name.now) (S.seen store.old) (S.seen store.new)
+        (K.seen out.old) (K.seen out.new) (status_of result) }
+    ensures spares { Spares (Compile file.now name.now) (S.seen store.old) (S.seen store.new) }
+{
+    let source = read_file(alloc, store, file, FILE_LIMIT)?;
+    let program = first_program(alloc, &source)?;
+    let image = compile(alloc, &program)?;
+    write_out(alloc, name, &image, store)
+}
+
+/// Runs an image.
+fn run_run<S: Store, K: Sink>(
+    alloc: Global,
+    name: &str,
+    run: &RunWords<'_>,
+    store: &mut S,
+    out: &mut K,
+) -> Result<(), Status>
+    ensures ends { Ends (Run name.now (run_view run.now)) (S.seen store.old) (S.seen store.new)
+        (K.seen out.old) (K.seen out.new) (status_of result) }
+    ensures spares { Spares (Run name.now (run_view run.now)) (S.seen store.old) (S.seen store.new) }
+{
+    let (bytes, schedule) = read_two(alloc, store, name, IMAGE_LIMIT, run.schedule)?;
+    let (image, lines) = plan_run(alloc, &bytes, &schedule)?;
+    run_image(alloc, image, &run.messages, &lines, out)
+}
+
+/// Writes the image of a source file, and runs it.
+fn run_go<S: Store, K: Sink>(
+    alloc: Global,
+    file: &str,
+    name: &str,
+    run: &RunWords<'_>,
+    store: &mut S,
+    out: &mut K,
+) -> Result<(), Status>
+    ensures ends { Ends (Go file.now name.now (run_view run.now)) (S.seen store.old) (S.seen store.new)
+        (K.seen out.old) (K.seen out.new) (status_of result) }
+    ensures spares { Spares (Go file.now name.now (run_view run.now)) (S.seen store.old) (S.seen store.new) }
+{
+    let (source, schedule) = read_two(alloc, store, file, FILE_LIMIT, run.schedule)?;
+    let (program, lines) = plan_go(alloc, &source, &schedule)?;
+    let image = compile(alloc, &program)?;
+    write_out(alloc, name, &image, store)?;
+    run_image(alloc, image, &run.messages, &lines, out)
+}
+
+/// Prints the listing of an image.
+fn run_disasm<S: Store, K: Sink>(
+    alloc: Global,
+    name: &str,
+    store: &mut S,
+    out: &mut K,
+) -> Result<(), Status>
+    ensures ends { Ends (Disasm name.now) (S.seen store.old) (S.seen store.new)
+        (K.seen out.old) (K.seen out.new) (status_of result) }
+    ensures spares { Spares (Disasm name.now) (S.seen store.old) (S.seen store.new) }
+{
+    let bytes = read_file(alloc, store, name, IMAGE_LIMIT)?;
+    let image = image_in(alloc, &bytes)?;
+    let text = listing(alloc, &image)?;
+    put_lines(out, &text)
+}
+
+/// Writes the image of a listing.
+fn run_assemble<S: Store, K: Sink>(
+    alloc: Global,
+    file: &str,
+    name: &str,
+    store: &mut S,
+    out: &mut K,
+) -> Result<(), Status>
+    ensures ends { Ends (Assemble file.now name.now) (S.seen store.old) (S.seen store.new)
+        (K.seen out.old) (K.seen out.new) (status_of result) }
+    ensures spares { Spares (Assemble file.now name.now) (S.seen store.old) (S.seen store.new) }
+{
+    let text = read_file(alloc, store, file, LISTING_LIMIT)?;
+    let image = image_of_listing(alloc, &text)?;
+    write_out(alloc, name, &image, store)
 }
 
 /// The status with which a command ends.
@@ -158,6 +160,27 @@ fn finished(ended: Result<(), Status>) -> Status
     }
 }
 
+/// Runs a command.
+fn obey<S: Store, K: Sink>(
+    alloc: Global,
+    command: &Command<'_>,
+    store: &mut S,
+    out: &mut K,
+) -> Status
+    ensures ends { Ends (command_view command.now) (S.seen store.old) (S.seen store.new)
+        (K.seen out.old) (K.seen out.new) result }
+    ensures spares { Spares (command_view command.now) (S.seen store.old) (S.seen store.new) }
+{
+    finished(match command {
+        Command::Check { file } => run_check(alloc, file, store, out),
+        Command::Compile { file, image } => run_compile(alloc, file, image, store, out),
+        Command::Run { image, run } => run_run(alloc, image, run, store, out),
+        Command::Disasm { image } => run_disasm(alloc, image, store, out),
+        Command::Assemble { listing, image } => run_assemble(alloc, listing, image, store, out),
+        Command::Go { file, image, run } => run_go(alloc, file, image, run, store, out),
+    })
+}
+
 /// Runs a command by its words, over a store of files and a sink for what it prints.
 pub fn redn<S: Store, K: Sink>(
     alloc: Global,
@@ -165,46 +188,35 @@ pub fn redn<S: Store, K: Sink>(
     store: &mut S,
     out: &mut K,
 ) -> Status
-    ensures answers { IfSpoken result (Grew (S.told store.old) (S.told store.new)
-        (K.told out.old) (K.told out.new) (Answers (map string_bytes words.now.items) (S.told store.old) result)) }
+    // What the command answers, prints and writes, and which counts rose.
+    ensures ends { (c : CommandValue) → IsCommand (map string_bytes words.now.items) c
+        → Ends c (S.seen store.old) (S.seen store.new) (K.seen out.old) (K.seen out.new) result }
+    ensures spares { (c : CommandValue) → IsCommand (map string_bytes words.now.items) c
+        → Spares c (S.seen store.old) (S.seen store.new) }
 
-    // Where the store tells what it holds, and no call failed.
-    ensures demands { (files : Files) → S.told store.old ≡ Some files → (s : Status)
-        → Demands (map string_bytes words.now.items) files s
-        → IfSpoken s (IfSpoken result (code_of result ≡ code_of s)) }
-    ensures runs { (files : Files) → S.told store.old ≡ Some files → (g : Go)
-        → IsGo (map string_bytes words.now.items) g
-        → (p : Program) (message : List ℕ) (lines : List Numbered)
-        → CanRun (Some files) g p message lines → IfSpoken result (IsRun result) }
-    ensures completes { (files : Files) → S.told store.old ≡ Some files → (g : Go)
-        → IsGo (map string_bytes words.now.items) g
-        → (p : Program) (message : List ℕ) (lines : List Numbered)
-        → CanRun (Some files) g p message lines
-        → ¬ Rose (S.read_faults store.old) (S.read_faults store.new)
-        → ¬ Rose (S.write_faults store.old) (S.write_faults store.new)
-        → ¬ Rose (K.faults out.old) (K.faults out.new) → IsRunOrWant result }
+    // Other words do nothing.
+    ensures no_command { ((c : CommandValue) → ¬ IsCommand (map string_bytes words.now.items) c)
+        → IsNotBuilt result × Stayed (S.seen store.old) (S.seen store.new) (K.seen out.old) (K.seen out.new) }
 
-    // Failed calls, and whether they are told.
-    ensures read_failed { OnReadFailed result
-        (Rose (S.read_faults store.old) (S.read_faults store.new)) }
-    ensures read_nothing { OnReadFailed result
-        (Stayed (S.told store.old) (S.told store.new) (K.told out.old) (K.told out.new)) }
-    ensures missing { OnMissing result
-        (Rose (S.missing_answers store.old) (S.missing_answers store.new)) }
-    ensures long { OnLong result
-        (Rose (S.long_answers store.old) (S.long_answers store.new)) }
-    ensures write_failed { OnWriteFailed result
-        (Rose (S.write_faults store.old) (S.write_faults store.new)
-        ⊎ Rose (K.faults out.old) (K.faults out.new)) }
-    ensures reliable { S.is_reliable store.old → S.is_reliable store.new }
-    ensures reliable_sink { K.is_reliable out.old → K.is_reliable out.new }
-    ensures reads { OnReadFailed result (¬ S.is_reliable store.old) }
-    ensures writes { OnWriteFailed result
-        (S.is_reliable store.old → K.is_reliable out.old → ⊥) }
+    // Where the store tells what it holds: a reason that holds is told, and where none does the
+    // command does its work, unless a call fails or memory is wanting.
+    ensures demands { (files : Files) → (S.seen store.old).told ≡ Some files
+        → (c : CommandValue) → IsCommand (map string_bytes words.now.items) c
+        → (i : Input) → IsInput (Some files) c i → (s : Status) → First (reasons c i) s
+        → IfSpoken result (code_of result ≡ code_of s) }
+    ensures works { (files : Files) → (S.seen store.old).told ≡ Some files
+        → (c : CommandValue) → IsCommand (map string_bytes words.now.items) c
+        → (i : Input) → IsInput (Some files) c i → NoneHolds (reasons c i)
+        → IfSpoken result (IsFinish c result) }
+    ensures completes { (files : Files) → (S.seen store.old).told ≡ Some files
+        → (c : CommandValue) → IsCommand (map string_bytes words.now.items) c
+        → (i : Input) → IsInput (Some files) c i → NoneHolds (reasons c i)
+        → NoneFailed (S.seen store.old) (S.seen store.new) (K.seen out.old) (K.seen out.new)
+        → IsFinishOrWant c result }
 {
-    match (go_of(words), check_of(words)) {
-        (Some(go), _) => finished(run_go(alloc, &go, store, out)),
-        (None, Some(file)) => finished(run_check(alloc, file, store, out)),
-        (None, None) => Status::NotBuilt,
+    match command_of(alloc, words) {
+        Ok(command) => obey(alloc, &command, store, out),
+        Err(WordsFault::Refused) => Status::NotBuilt,
+        Err(WordsFault::Memory) => Status::Memory,
     }
 }

@@ -1,14 +1,58 @@
-ghost use Rattle.std.specs.Prelude.{◌≡◌, ◌↔◌, ℕ, List, IsTrue, IfSome, IfNone, map, string_bytes};
-ghost use Rattle.redn_top.specs.Words.{Go, IsGo, IsCheck, IsName, go_view};
+//! The words of a command.
 
-/// The words of `go FILE IMAGE --schedule SCHEDULE 0=HEX`.
+ghost use Rattle.std.specs.Prelude.{◌≡◌, ◌≢◌, ◌↔◌, ℕ, List, [], ◌∷◌, Err, IsTrue, IfOk, IfSome, IfNone, All, codes, map, string_bytes};
+ghost use Rattle.redn_top.specs.Words.{Command as CommandValue, HasSmallChain, IsCommand, IsMessageWord, IsName, IsRun, MessageWord as MessageValue, RunWords as RunValue, command_view, message_text, message_view, run_texts, run_view};
+
+use redn_sched::{read_small, split_field};
+use std::alloc::Global;
+
+/// `C=HEX`: a message for a chain, by its hex digits.
 #[derive(Clone, Copy)]
-pub struct GoWords<'a> {
-    pub file: &'a str,
-    pub image: &'a str,
+pub struct MessageWord<'a> {
+    pub chain: u32,
+    pub digits: &'a [u8],
+}
+
+/// What an image is run with: the file of a schedule, and messages.
+#[derive(Drop)]
+pub struct RunWords<'a> {
     pub schedule: &'a str,
-    /// What stands behind `0=`.
-    pub hex: &'a [u8],
+    pub messages: Vec<MessageWord<'a>>,
+}
+
+/// What words ask for, with the names of files.
+#[derive(Drop)]
+pub enum Command<'a> {
+    Check {
+        file: &'a str,
+    },
+    Compile {
+        file: &'a str,
+        image: &'a str,
+    },
+    Run {
+        image: &'a str,
+        run: RunWords<'a>,
+    },
+    Go {
+        file: &'a str,
+        image: &'a str,
+        run: RunWords<'a>,
+    },
+    Disasm {
+        image: &'a str,
+    },
+    Assemble {
+        listing: &'a str,
+        image: &'a str,
+    },
+}
+
+/// Words are no command; or want of memory.
+#[derive(Clone, Copy, Debug, PartialEq, Eq)]
+pub enum WordsFault {
+    Refused,
+    Memory,
 }
 
 /// Whether a word can be a file's name: it isn't empty and is no option.
@@ -21,45 +65,170 @@ fn is_name(word: &str) -> bool
     }
 }
 
-/// The words as those of `go`, or none where they aren't.
-pub fn go_of(words: &Vec<String>) -> Option<GoWords<'_>>
-    ensures found { IfSome result (λ w. IsGo (map string_bytes words.now.items) (go_view w)) }
-    ensures no_other { IfNone result ((g : Go) → ¬ IsGo (map string_bytes words.now.items) g) }
+/// A message word, or none where it isn't one.
+fn message_word(word: &[u8]) -> Option<MessageWord<'_>>
+    ensures found { IfSome result (λ m. IsMessageWord word.now (message_view m)) }
+    ensures none { IfNone result ((m : MessageValue) → ¬ IsMessageWord word.now m) }
 {
-    let [verb, file, image, option, schedule, message] = words.as_slice() else {
+    let Some((chain, digits)) = split_field(word, b'=') else {
         return None;
     };
-    let [b'0', b'=', hex @ ..] = message.as_bytes() else {
+    let Some(chain) = read_small(chain) else {
         return None;
     };
-    let file = file.as_str();
-    let image = image.as_str();
-    let schedule = schedule.as_str();
-    if verb.as_str() != "go" || option.as_str() != "--schedule" {
-        return None;
-    }
-    if !is_name(file) || !is_name(image) || !is_name(schedule) {
-        return None;
-    }
-    Some(GoWords {
-        file,
-        image,
-        schedule,
-        hex,
-    })
+    Some(MessageWord { chain, digits })
 }
 
-/// The name of the file in the words of `check FILE`, or none where they aren't.
-pub fn check_of(words: &Vec<String>) -> Option<&str>
-    ensures found { IfSome result (λ file. IsCheck (map string_bytes words.now.items) file.now) }
-    ensures no_other { IfNone result ((file : List ℕ) → ¬ IsCheck (map string_bytes words.now.items) file) }
+fn message_words<'a>(alloc: Global, words: &'a [String]) -> Result<Vec<MessageWord<'a>>, WordsFault>
+    ensures words { IfOk result (λ v. map string_bytes words.now ≡ map message_text (map message_view v.items)) }
+    ensures small { IfOk result (λ v. All HasSmallChain (map message_view v.items)) }
+    ensures refused { result ≡ Err WordsFault.Refused → (messages : _) → All HasSmallChain messages
+        → map string_bytes words.now ≢ map message_text messages }
 {
-    let [verb, file] = words.as_slice() else {
-        return None;
-    };
-    let file = file.as_str();
-    if verb.as_str() != "check" || !is_name(file) {
-        return None;
+    let mut messages = Vec::new(alloc);
+    for word in words {
+        let Some(message) = message_word(word.as_bytes()) else {
+            return Err(WordsFault::Refused);
+        };
+        messages.push(message).map_err(|_| WordsFault::Memory)?;
     }
-    Some(file)
+    Ok(messages)
+}
+
+/// `--schedule F` and message words.
+fn run_words<'a>(alloc: Global, words: &'a [String]) -> Result<RunWords<'a>, WordsFault>
+    ensures words { IfOk result (λ r. map string_bytes words.now ≡ run_texts (run_view r)) }
+    ensures run { IfOk result (λ r. IsRun (run_view r)) }
+    ensures refused { result ≡ Err WordsFault.Refused → (r : RunValue) → IsRun r
+        → map string_bytes words.now ≢ run_texts r }
+{
+    let [option, schedule, messages @ ..] = words else {
+        return Err(WordsFault::Refused);
+    };
+    let schedule = schedule.as_str();
+    if option.as_str() != "--schedule" || !is_name(schedule) {
+        return Err(WordsFault::Refused);
+    }
+    let messages = message_words(alloc, messages)?;
+    Ok(RunWords { schedule, messages })
+}
+
+/// `check FILE`.
+fn check_of(words: &[String]) -> Result<Command<'_>, WordsFault>
+    ensures command { IfOk result (λ c. IsCommand (codes "check" ∷ map string_bytes words.now) (command_view c)) }
+    ensures refused { result ≡ Err WordsFault.Refused → (file : List ℕ) → IsName file
+        → map string_bytes words.now ≢ file ∷ [] }
+{
+    match words {
+        [file] if is_name(file.as_str()) => Ok(Command::Check {
+            file: file.as_str(),
+        }),
+        _ => Err(WordsFault::Refused),
+    }
+}
+
+/// `compile FILE IMAGE`.
+fn compile_of(words: &[String]) -> Result<Command<'_>, WordsFault>
+    ensures command { IfOk result (λ c. IsCommand (codes "compile" ∷ map string_bytes words.now) (command_view c)) }
+    ensures refused { result ≡ Err WordsFault.Refused → (file image : List ℕ) → IsName file → IsName image
+        → map string_bytes words.now ≢ file ∷ image ∷ [] }
+{
+    match words {
+        [file, image] if is_name(file.as_str()) && is_name(image.as_str()) => {
+            Ok(Command::Compile {
+                file: file.as_str(),
+                image: image.as_str(),
+            })
+        }
+        _ => Err(WordsFault::Refused),
+    }
+}
+
+/// `disasm IMAGE`.
+fn disasm_of(words: &[String]) -> Result<Command<'_>, WordsFault>
+    ensures command { IfOk result (λ c. IsCommand (codes "disasm" ∷ map string_bytes words.now) (command_view c)) }
+    ensures refused { result ≡ Err WordsFault.Refused → (image : List ℕ) → IsName image
+        → map string_bytes words.now ≢ image ∷ [] }
+{
+    match words {
+        [image] if is_name(image.as_str()) => Ok(Command::Disasm {
+            image: image.as_str(),
+        }),
+        _ => Err(WordsFault::Refused),
+    }
+}
+
+/// `assemble LISTING IMAGE`.
+fn assemble_of(words: &[String]) -> Result<Command<'_>, WordsFault>
+    ensures command { IfOk result (λ c. IsCommand (codes "assemble" ∷ map string_bytes words.now) (command_view c)) }
+    ensures refused { result ≡ Err WordsFault.Refused → (listing image : List ℕ)
+        → IsName listing → IsName image → map string_bytes words.now ≢ listing ∷ image ∷ [] }
+{
+    match words {
+        [listing, image] if is_name(listing.as_str()) && is_name(image.as_str()) => {
+            Ok(Command::Assemble {
+                listing: listing.as_str(),
+                image: image.as_str(),
+            })
+        }
+        _ => Err(WordsFault::Refused),
+    }
+}
+
+/// `run IMAGE --schedule F`, and messages.
+fn run_of<'a>(alloc: Global, words: &'a [String]) -> Result<Command<'a>, WordsFault>
+    ensures command { IfOk result (λ c. IsCommand (codes "run" ∷ map string_bytes words.now) (command_view c)) }
+    ensures refused { result ≡ Err WordsFault.Refused → (image : List ℕ) (r : RunValue) → IsName image → IsRun r
+        → map string_bytes words.now ≢ image ∷ run_texts r }
+{
+    match words {
+        [image, rest @ ..] if is_name(image.as_str()) => {
+            let run = run_words(alloc, rest)?;
+            Ok(Command::Run {
+                image: image.as_str(),
+                run,
+            })
+        }
+        _ => Err(WordsFault::Refused),
+    }
+}
+
+/// `go FILE IMAGE --schedule F`, and messages.
+fn go_of<'a>(alloc: Global, words: &'a [String]) -> Result<Command<'a>, WordsFault>
+    ensures command { IfOk result (λ c. IsCommand (codes "go" ∷ map string_bytes words.now) (command_view c)) }
+    ensures refused { result ≡ Err WordsFault.Refused → (file image : List ℕ) (r : RunValue)
+        → IsName file → IsName image → IsRun r
+        → map string_bytes words.now ≢ file ∷ image ∷ run_texts r }
+{
+    match words {
+        [file, image, rest @ ..] if is_name(file.as_str()) && is_name(image.as_str()) => {
+            let run = run_words(alloc, rest)?;
+            Ok(Command::Go {
+                file: file.as_str(),
+                image: image.as_str(),
+                run,
+            })
+        }
+        _ => Err(WordsFault::Refused),
+    }
+}
+
+/// The command that words mean.
+pub fn command_of<'a>(alloc: Global, words: &'a Vec<String>) -> Result<Command<'a>, WordsFault>
+    ensures command { IfOk result (λ c. IsCommand (map string_bytes words.now.items) (command_view c)) }
+    ensures refused { result ≡ Err WordsFault.Refused → (c : CommandValue)
+        → ¬ IsCommand (map string_bytes words.now.items) c }
+{
+    let Some((verb, rest)) = words.as_slice().split_first() else {
+        return Err(WordsFault::Refused);
+    };
+    match verb.as_str() {
+        "check" => check_of(rest),
+        "compile" => compile_of(rest),
+        "run" => run_of(alloc, rest),
+        "go" => go_of(alloc, rest),
+        "disasm" => disasm_of(rest),
+        "assemble" => assemble_of(rest),
+        _ => Err(WordsFault::Refused),
+    }
 }

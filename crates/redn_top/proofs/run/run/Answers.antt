@@ -1,4 +1,5 @@
-use Rattle.std.proofs.Common.{◌+◌, List, take, drop, get_or, refl, sym, ap, subst, ◌∙◌, arith}
+use Rattle.std.proofs.Common.{◌+◌, List, take, drop, get_or, refl, sym, ap, subst, ◌∙◌}
+use Rattle.std.proofs.lemmas.Result.{err_from_is_err_and}
 use Rattle.redn_words.specs.declared.types.Action.{Action}
 use Rattle.redn_words.specs.declared.types.Action.TheVariants.{Deliver}
 use Rattle.redn_words.specs.States.{State}
@@ -6,7 +7,7 @@ use Rattle.redn_words.specs.Steps.{possible}
 use Rattle.redn_sched.specs.declared.text.Numbered.{Numbered}
 use Rattle.redn_trace.specs.EventText.{IsPrintable}
 use Rattle.redn_top.specs.RunText.{actions_of, events_text}
-use Rattle.redn_top.proofs.RunLemmas.{Ran, step_some, step_none, ran_more, actions_more, around}
+use Rattle.redn_top.proofs.RunLemmas.{broken_off, later_faults, Ran, step_some, step_none, ran_more, actions_more, around}
 use Rattle.redn_top.proofs.Printable.{shown_fits}
 use Rattle.redn_top.proofs.run.run.Goals as goal
 
@@ -35,6 +36,16 @@ returns-in_default-clause-refused g c =
       ran.text,
     )
 
+pub returns-in_err-put_event-clause-refused : goal.returns-in_err-put_event-clause-refused
+unfolding no_line
+returns-in_err-put_event-clause-refused g c =
+    let lines = c.args.lines.now in
+    let k = c.loop-numbered.numbered-index in
+    let x = get_or lines k no_line in
+    let p = err_from_is_err_and c.from_residual.result c.from_residual.ensures.1 in
+    let s = step_some c.loop-numbered.adapter x.action c.in-Some.shown c.step.new.self c.in-Some.ensures.shown c.in-Some.ensures.after in
+    rw (p.1, p.2) (broken_off lines k no_line c.loop-numbered-test.true c.args.adapter.now c.loop-numbered.adapter (g.K.Sink.seen c.args.out.now) (g.K.Sink.seen c.loop-numbered.out) (g.K.Sink.seen c.put_event.new.out) c.loop-numbered.invariant.1 c.loop-numbered.invariant.0 c.in-Some.shown c.step.new.self s c.in_err-put_event.field-0.0 c.in_err-put_event.ensures.refused)
+
 pub put_event-requires : goal.put_event-requires
 unfolding no_line
 put_event-requires g c =
@@ -48,9 +59,9 @@ loop-numbered-preserved g c =
     let lines = c.args.lines.now in
     let k = c.loop-numbered.numbered-index in
     let x = get_or lines k no_line in
+    let before = (g.K.Sink.seen c.args.out.now).told in
     let s = step_some c.loop-numbered.adapter x.action c.in-Some.shown c.step.new.self c.in-Some.ensures.shown c.in-Some.ensures.after in
-    let more = ran_more c.args.adapter.now (actions_of (take k lines)) k c.loop-numbered.adapter (g.K.Sink.told c.args.out.now) (g.K.Sink.told c.loop-numbered.out) x.action c.in-Some.shown c.step.new.self _ c.loop-numbered.invariant.0 s c.in_ok-put_event.ensures.ok in (
-      subst (λ (acts : List Action). Ran c.args.adapter.now acts (k + 1) c.step.new.self (g.K.Sink.told c.args.out.now) (g.K.Sink.told c.put_event.new.out)) (sym (actions_more lines k no_line c.loop-numbered-test.true)) more,
-      omega (arith, c.loop-numbered.invariant.1, c.in_ok-put_event.ensures.faults_stay),
-      λ r. c.in_ok-put_event.ensures.reliable (c.loop-numbered.invariant.2 r),
+    let more = ran_more c.args.adapter.now (actions_of (take k lines)) k c.loop-numbered.adapter before (g.K.Sink.seen c.loop-numbered.out).told x.action c.in-Some.shown c.step.new.self _ c.loop-numbered.invariant.0 s c.in_ok-put_event.ensures.ok in (
+      subst (λ (acts : List Action). Ran c.args.adapter.now acts (k + 1) c.step.new.self before (g.K.Sink.seen c.put_event.new.out).told) (sym (actions_more lines k no_line c.loop-numbered-test.true)) more,
+      later_faults _ _ _ c.loop-numbered.invariant.1 c.in_ok-put_event.ensures.stays,
     )

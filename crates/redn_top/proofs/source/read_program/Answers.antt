@@ -4,7 +4,7 @@ use Rattle.std.proofs.lemmas.Result.{IfOk-weaker, IfErr-weaker}
 use Rattle.redn_kernel.specs.declared.types.Program.{Program}
 use Rattle.redn_check.specs.Numbering.{program_of}
 use Rattle.redn_top.specs.Sources.{Means}
-use Rattle.redn_top.specs.Answers.{SourceRefused}
+use Rattle.redn_top.specs.Refusals.{SourceRefused}
 use Rattle.redn_top.specs.Refusals.{RulesRefused}
 use Rattle.redn_top.proofs.SourceFaults.{the_program, rules_refused}
 use Rattle.redn_top.proofs.source.read_program.Goals as goal

@@ -1,0 +1,113 @@
+-- Why contents of files are refused, and that nothing is wrong with good ones.
+use Rattle.std.proofs.Common.{◌≡◌, ℕ, List, inl, inr, refl, sym, ap, subst, ◌∙◌}
+use Rattle.std.specs.Prelude.{Some, None}
+use Rattle.redn_kernel.specs.declared.types.Program.{Program}
+use Rattle.redn_compile.specs.FirstImage.{HasFirstShape}
+use Rattle.redn_image.specs.declared.numbers.Fault.{Fault}
+use Rattle.redn_image.specs.Rules.{Numbers}
+use Rattle.redn_disasm.specs.Assembly.{Assembles, Outcome, Made, WrongLine, BreaksRule}
+use Rattle.redn_disasm.specs.Laws.{OneMeaning}
+use Rattle.redn_top.specs.declared.status.TextFault.TheVariants.{Line}
+use Rattle.redn_top.specs.declared.status.ImageFault.TheVariants.{Rule}
+use Rattle.redn_image.specs.Spelling.{refused}
+use Rattle.redn_sched.specs.declared.text.Numbered.{Numbered}
+use Rattle.redn_sched.specs.ScheduleText.{lines_of, Reads}
+use Rattle.redn_sched.proofs.OneReading.{one_reading}
+use Rattle.redn_top.specs.declared.status.Status.{Status}
+use Rattle.redn_top.specs.declared.status.Status.TheVariants.{Done, ReadFailed, Missing, WriteFailed, Long, Text, Program as ProgramRefused, Image, Memory, Step, Message, NotBuilt}
+use Rattle.redn_top.specs.Sources.{IsTextOf, Means}
+use Rattle.redn_top.specs.Reasons.{Nil, Or, Never, NoneHolds, no_tree, no_program, other_shape, wrong_line, source_reasons, program_reasons, image_reasons, line_reasons, listing_reasons, First}
+use Rattle.redn_top.specs.Refusals.{Refuses, SourceRefused, HasActions}
+use Rattle.redn_top.proofs.FirstReason.{first_here, first_behind, refuses_map, same_text}
+
+module _ (text : List ℕ) where
+  -- a text with a tree isn't refused for having none
+  never_no_tree : (f : _) → IsTextOf text f → Never (no_tree (Some text))
+  never_no_tree f read s h =
+      let same = same_text text h.0 h.1 in
+      h.2.1.none f (subst (λ (t : List ℕ). IsTextOf t f) same read)
+
+  -- nor a text with a program for a rule
+  never_no_program : (p : Program) → Means text p → Never (no_program (Some text))
+  never_no_program p means s h =
+      let same = same_text text h.0 h.1 in
+      h.2.3.none p (subst (λ (t : List ℕ). Means t p) same means)
+
+  pub means_none : (p : Program) → Means text p → NoneHolds (source_reasons (Some text))
+  means_none p means = (never_no_tree means.file means.read, (never_no_program p means, tt))
+
+  never_other_shape : (p : Program) → ((q : Program) → Means text q → p ≡ q) → HasFirstShape p → Never (other_shape (Some text))
+  never_other_shape p only shape s h =
+      let same = same_text text h.0 h.1 in
+      h.2.0.2 (subst HasFirstShape (only h.2.0.0 (subst (λ (t : List ℕ). Means t h.2.0.0) (sym same) h.2.0.1)) shape)
+
+  pub shape_none : (p : Program) → Means text p → ((q : Program) → Means text q → p ≡ q) → HasFirstShape p → NoneHolds (program_reasons (Some text))
+  shape_none p means only shape = (never_no_tree means.file means.read, (never_no_program p means, (never_other_shape p only shape, tt)))
+
+  pub shape_first : (p : Program) → Means text p → (HasFirstShape p → ⊥) → Refuses (program_reasons (Some text)) NotBuilt
+  shape_first p means not =
+      first_behind (source_reasons (Some text)) (Or (other_shape (Some text)) Nil) NotBuilt (means_none p means) (inl (text, refl, ((p, means, not), refl)))
+
+  pub source_refused : (s : Status) → SourceRefused text s → Refuses (source_reasons (Some text)) s
+  source_refused Memory h = tt
+  source_refused (Text fault) h = inl (text, refl, (fault, h, refl))
+  source_refused (ProgramRefused rule at seen) h = inr (never_no_tree h.file h.read, inl (text, refl, (rule, at, seen, h, refl)))
+  source_refused Done h = absurd h
+  source_refused ReadFailed h = absurd h
+  source_refused Missing h = absurd h
+  source_refused WriteFailed h = absurd h
+  source_refused (Long seen limit) h = absurd h
+  source_refused (Image fault) h = absurd h
+  source_refused (Step line) h = absurd h
+  source_refused (Message fault) h = absurd h
+  source_refused NotBuilt h = absurd h
+
+  pub program_refused : (s : Status) → SourceRefused text s → Refuses (program_reasons (Some text)) s
+  program_refused s h =
+      refuses_map (source_reasons (Some text)) (program_reasons (Some text)) (first_here (source_reasons (Some text)) (Or (other_shape (Some text)) Nil)) s (source_refused s h)
+
+  pub lines_none : (lines : List Numbered) → HasActions text lines → NoneHolds (line_reasons (Some text))
+  lines_none lines reads = (
+    (λ s h.
+        let same = same_text text h.0 h.1 in
+        let other = subst (λ (t : List ℕ). Reads 1 (lines_of t) h.2.0.0 (Some h.2.0.1)) (sym same) h.2.0.2 in
+        let bad = (one_reading 1 (lines_of text) lines h.2.0.0 None (Some h.2.0.1) reads other).1 in
+        absurd (cc)),
+    tt,
+  )
+
+  pub line_first : (lines : List Numbered) (bad : ℕ) → Reads 1 (lines_of text) lines (Some bad) → Refuses (line_reasons (Some text)) NotBuilt
+  line_first lines bad reads = inl (text, refl, ((lines, bad, reads), refl))
+
+  -- a listing with an image has no wrong line and breaks no rule, and one that breaks a rule has no wrong line
+  never_wrong_line : OneMeaning → (a : Outcome) → Assembles text a → ((n : ℕ) → a ≡ WrongLine n → ⊥) → Never (wrong_line (Some text))
+  never_wrong_line one a means other s h =
+      let same = same_text text h.0 h.1 in
+      other h.2.0 (one text a (WrongLine h.2.0) means (subst (λ (t : List ℕ). Assembles t (WrongLine h.2.0)) (sym same) h.2.1))
+
+  pub listing_none : OneMeaning → (rows : Numbers) (memory : List ℕ) → Assembles text (Made rows memory) → NoneHolds (listing_reasons (Some text))
+  listing_none one rows memory means = (
+    never_wrong_line one (Made rows memory) means (λ n e. absurd (cc)),
+    (
+      (λ s h.
+          let same = same_text text h.0 h.1 in
+          let other = one text (Made rows memory) (BreaksRule h.2.0) means (subst (λ (t : List ℕ). Assembles t (BreaksRule h.2.0)) (sym same) h.2.1) in
+          absurd (cc)),
+      tt,
+    ),
+  )
+
+  pub wrong_line_first : (n : ℕ) → Assembles text (WrongLine n) → First (listing_reasons (Some text)) (Text (Line n))
+  wrong_line_first n means = inl (text, refl, (n, means, refl))
+
+  pub broken_rows_first : OneMeaning → (f : Fault) → Assembles text (BreaksRule f) → First (listing_reasons (Some text)) (Image (Rule f.rule f.index))
+  broken_rows_first one f means = inr (never_wrong_line one (BreaksRule f) means (λ n e. absurd (cc)), inl (text, refl, (f, means, refl)))
+
+  pub image_none : refused text ≡ None → NoneHolds (image_reasons (Some text))
+  image_none e = (
+    (λ s h.
+        let same = same_text text h.0 h.1 in
+        let other : refused text ≡ Some h.2.0 = ap refused same ∙ h.2.1 in
+        absurd (cc)),
+    tt,
+  )

@@ -1,0 +1,342 @@
+-- How commands end, by what their parts answer.
+use Rattle.std.proofs.Common.{◌≡◌, ℕ, List, [], ◌∷◌, ◌++◌, length, take, inl, inr, refl, sym, ap, subst, ◌∙◌}
+use Rattle.std.specs.Prelude.{Option, Some, None, Result, Ok, Err, OnOk, IfErr}
+use Rattle.std.specs.Option.{option_map}
+use Rattle.redn_syntax.specs.declared.tree.File.{File}
+use Rattle.redn_syntax.specs.Canonical.{canonical_text}
+use Rattle.redn_check.specs.Rules.{Accepts}
+use Rattle.redn_check.specs.Numbering.{program_of}
+use Rattle.redn_kernel.specs.declared.types.Program.{Program}
+use Rattle.redn_outside.specs.Counts.{Rose}
+use Rattle.redn_outside.specs.Files.{Files, with_file}
+use Rattle.redn_outside.specs.Seen.{StoreSeen, SinkSeen, KeepsFiles}
+use Rattle.redn_disasm.specs.Assembly.{Assembles, Made}
+use Rattle.redn_disasm.specs.Listing.{listing_text}
+use Rattle.redn_image.specs.Rules.{Image, numbers_of}
+use Rattle.redn_image.specs.Spelling.{Spells}
+use Rattle.redn_image.specs.Faithful.{Faithful, start_of}
+use Rattle.redn_top.specs.MessageWords.{messages}
+use Rattle.redn_top.specs.RunText.{IsCut}
+use Rattle.redn_sched.specs.declared.text.Numbered.{Numbered}
+use Rattle.redn_top.specs.declared.limits.TheConstants.{FILE_LIMIT, IMAGE_LIMIT, LISTING_LIMIT, SCHEDULE_LIMIT}
+use Rattle.redn_top.specs.declared.status.Status.{Status}
+use Rattle.redn_top.specs.declared.status.Status.TheVariants.{Done, ReadFailed, Missing, WriteFailed, Long, Text, Program as ProgramRefused, Image as ImageRefused, Memory, Step, Message, NotBuilt}
+use Rattle.redn_top.specs.Words.{Command, Check, Compile, Run, Go, Disasm, Assemble, RunWords, MessageWord}
+use Rattle.redn_top.specs.Sources.{IsTextOf, Means}
+use Rattle.redn_top.specs.Reasons.{Input, IsInput, also, NoneHolds, First, read_reasons, two_reads, source_reasons, program_reasons, image_reasons, line_reasons, listing_reasons, reasons, message_reasons}
+use Rattle.redn_top.specs.Answers.{Written, Listed, Checked, RunsImage, Finishes, IsPart, Answered, Ends, with_written, status_of}
+use Rattle.redn_top.specs.Refusals.{IsHeld, HasActions, ReadsRefuse, ReadRefused, RunReadRefused, Refuses, SourceRefused, LinesRefused, PutRefused, WriteRefused, ImageRan, Printed}
+use Rattle.redn_top.proofs.FirstReason.{first_here, first_behind, none_both, refuses_map, reads_map, read_passed}
+use Rattle.redn_top.proofs.Contents.{means_none, source_refused}
+use Rattle.redn_top.proofs.ImageRuns.{told_nothing}
+
+written_nothing : (held : Option Files) → held ≡ option_map (with_written []) held
+written_nothing None = refl
+written_nothing (Some files) = refl
+
+written_one : (name bytes : List ℕ) (held : Option Files) → option_map (with_file name bytes) held ≡ option_map (with_written (record { name = name; bytes = bytes } ∷ [])) held
+written_one name bytes None = refl
+written_one name bytes (Some files) = refl
+
+-- ---- nothing but reads
+
+module _ (c : Command) (before now : StoreSeen) (out : SinkSeen) (told : now.told ≡ before.told) (i : Input) (is : IsInput before.told c i) where
+  told_refusal : (s : Status) → First (reasons c i) s → Answered c before now out out s
+  told_refusal s h =
+      record { input = i; printed = []; written = []; is_input = is; answers = inl (h, refl, refl); holds = told ∙ written_nothing before.told; prints = told_nothing out.told }
+
+  pub reads_end : (s : Status) → ReadsRefuse (reasons c i) before now s → Ends c before now out out s
+  reads_end ReadFailed h = (h, record { holds = told; prints = refl })
+  reads_end Memory h = tt
+  reads_end Missing h = (h.0, told_refusal Missing h.1)
+  reads_end (Long seen limit) h = (h.0, told_refusal (Long seen limit) h.1)
+  reads_end Done h = absurd h
+  reads_end WriteFailed h = absurd h
+  reads_end (Text fault) h = absurd h
+  reads_end (ProgramRefused rule at seen) h = absurd h
+  reads_end (ImageRefused fault) h = absurd h
+  reads_end (Step line) h = absurd h
+  reads_end (Message fault) h = absurd h
+  reads_end NotBuilt h = absurd h
+
+  pub contents_end : (s : Status) → Refuses (reasons c i) s → Ends c before now out out s
+  contents_end Memory h = tt
+  contents_end (Text fault) h = told_refusal (Text fault) h
+  contents_end (ProgramRefused rule at seen) h = told_refusal (ProgramRefused rule at seen) h
+  contents_end (ImageRefused fault) h = told_refusal (ImageRefused fault) h
+  contents_end NotBuilt h = told_refusal NotBuilt h
+  contents_end ReadFailed h = absurd h
+  contents_end Missing h = absurd h
+  contents_end (Long seen limit) h = absurd h
+  contents_end Done h = absurd h
+  contents_end WriteFailed h = absurd h
+  contents_end (Step line) h = absurd h
+  contents_end (Message fault) h = absurd h
+
+-- ---- a run
+
+module _ (c : Command) (before now : StoreSeen) (out out_now : SinkSeen) (i : Input) (is : IsInput before.told c i) (none : NoneHolds (reasons c i)) (written : List Written) (holds : now.told ≡ option_map (with_written written) before.told)
+    (image : Image) (words : List MessageWord) (lines : List Numbered) (finish : (s : Status) (printed : List ℕ) → RunsImage image words lines s printed → Finishes c i s printed written)
+    (breaks : (printed : List ℕ) → NoneHolds (message_reasons image words) → IsCut (start_of image (messages (length image.receives) words)) lines printed → IsPart c i printed written) where
+  told_run : (s : Status) → Printed image words lines out out_now s → Answered c before now out out_now s
+  told_run s h = record { input = i; printed = h.0; written = written; is_input = is; answers = inr (none, finish s h.0 h.1); holds = holds; prints = h.2 }
+
+  pub run_ends : (s : Status) → ImageRan image words lines out out_now s → Ends c before now out out_now s
+  run_ends Done h = told_run Done h
+  run_ends (Step line) h = told_run (Step line) h
+  run_ends (Message fault) h = told_run (Message fault) h
+  run_ends WriteFailed h = (i, is, none, inr (h.0, record { printed = h.2.0; written = written; is_part = breaks h.2.0 h.1 h.2.1; holds = holds; prints = h.2.2 }))
+  run_ends Memory h = tt
+  run_ends ReadFailed h = absurd h
+  run_ends Missing h = absurd h
+  run_ends (Long seen limit) h = absurd h
+  run_ends (Text fault) h = absurd h
+  run_ends (ProgramRefused rule at seen) h = absurd h
+  run_ends (ImageRefused fault) h = absurd h
+  run_ends NotBuilt h = absurd h
+
+-- ---- a write that failed
+
+module _ (c : Command) (before mid now : StoreSeen) (out : SinkSeen) (keeps : KeepsFiles before mid) (i : Input) (is : IsInput before.told c i) (none : NoneHolds (reasons c i)) where
+  pub write_ends : (s : Status) → WriteRefused mid now s → Ends c before now out out s
+  write_ends WriteFailed h = (i, is, none, inl ((subst (λ (n : ℕ). Rose n now.counts.write_faults) keeps.write_faults h.0, sym keeps.reliable ∙ h.1), refl))
+  write_ends Memory h = tt
+  write_ends Done h = absurd h
+  write_ends ReadFailed h = absurd h
+  write_ends Missing h = absurd h
+  write_ends (Long seen limit) h = absurd h
+  write_ends (Text fault) h = absurd h
+  write_ends (ProgramRefused rule at seen) h = absurd h
+  write_ends (ImageRefused fault) h = absurd h
+  write_ends (Step line) h = absurd h
+  write_ends (Message fault) h = absurd h
+  write_ends NotBuilt h = absurd h
+
+-- ---- each command
+
+one_file : List ℕ → Input
+one_file text = record { first = Some text; schedule = None }
+
+-- check FILE
+module _ (file : List ℕ) (before now : StoreSeen) (out : SinkSeen) (told : now.told ≡ before.told) where
+  pub check_unread : (s : Status) → ReadRefused before.told file FILE_LIMIT before now s → Ends (Check file) before now out out s
+  check_unread s r =
+      let i : Input = record { first = r.file; schedule = None } in
+      reads_end (Check file) before now out told i r.found s (reads_map (read_reasons r.file FILE_LIMIT) (reasons (Check file) i) (first_here (read_reasons r.file FILE_LIMIT) (source_reasons r.file)) before now s r.refuses)
+
+  pub check_refused : (text : List ℕ) → IsHeld before.told file FILE_LIMIT text → (s : Status) → SourceRefused text s → Ends (Check file) before now out out s
+  unfolding one_file
+  check_refused text held s h =
+      contents_end (Check file) before now out told (one_file text) held.found s
+      (refuses_map (source_reasons (Some text)) (reasons (Check file) (one_file text)) (λ t. first_behind (read_reasons (Some text) FILE_LIMIT) (source_reasons (Some text)) t (read_passed text FILE_LIMIT held.fits)) s (source_refused text s h))
+
+  pub check_put : (text printed : List ℕ) (f : File) → IsHeld before.told file FILE_LIMIT text → IsTextOf text f → Accepts f → printed ≡ canonical_text f → (out_now : SinkSeen) (r : Result (Unit {0}) Status) → OnOk r (out_now.told ≡ option_map (λ t. t ++ printed) out.told) → IfErr r (PutRefused printed out out_now) → Ends (Check file) before now out out_now (status_of r)
+  unfolding one_file
+  check_put text printed f held read accepted is out_now r ok err =
+      let means : Means text (program_of f) = record { file = f; read = read; accepted = accepted; is = refl } in
+      let none : NoneHolds (reasons (Check file) (one_file text)) = none_both (read_reasons (Some text) FILE_LIMIT) (source_reasons (Some text)) (read_passed text FILE_LIMIT held.fits) (means_none text (program_of f) means) in
+      put_ends r ok err none where
+        put_ends : (r : Result (Unit {0}) Status) → OnOk r (out_now.told ≡ option_map (λ t. t ++ printed) out.told) → IfErr r (PutRefused printed out out_now) → NoneHolds (reasons (Check file) (one_file text)) → Ends (Check file) before now out out_now (status_of r)
+        put_ends (Ok done) e h none = record {
+          input = one_file text;
+          printed = printed;
+          written = [];
+          is_input = held.found;
+          answers = inr (none, record { source = text; file = f; found = refl; read = read; accepted = accepted; done = refl; prints = is; writes = refl });
+          holds = told ∙ written_nothing before.told;
+          prints = e;
+        }
+        put_ends (Err WriteFailed) e h none =
+            let checked : Checked (one_file text) Done printed [] = record { source = text; file = f; found = refl; read = read; accepted = accepted; done = refl; prints = is; writes = refl } in
+            (one_file text, held.found, none, inr (h.0, record { printed = take h.1.0 printed; written = []; is_part = (printed, h.1.0, checked, refl); holds = told ∙ written_nothing before.told; prints = h.1.1 }))
+        put_ends (Err Memory) e h none = tt
+        put_ends (Err Done) e h none = absurd h
+        put_ends (Err ReadFailed) e h none = absurd h
+        put_ends (Err Missing) e h none = absurd h
+        put_ends (Err (Long seen limit)) e h none = absurd h
+        put_ends (Err (Text fault)) e h none = absurd h
+        put_ends (Err (ProgramRefused rule at seen)) e h none = absurd h
+        put_ends (Err (ImageRefused fault)) e h none = absurd h
+        put_ends (Err (Step line)) e h none = absurd h
+        put_ends (Err (Message fault)) e h none = absurd h
+        put_ends (Err NotBuilt) e h none = absurd h
+
+-- compile FILE IMAGE
+module _ (file name : List ℕ) (before mid : StoreSeen) (out : SinkSeen) (keeps : KeepsFiles before mid) where
+  pub compile_unread : (s : Status) → ReadRefused before.told file FILE_LIMIT before mid s → Ends (Compile file name) before mid out out s
+  compile_unread s r =
+      let i : Input = record { first = r.file; schedule = None } in
+      reads_end (Compile file name) before mid out keeps.told i r.found s (reads_map (read_reasons r.file FILE_LIMIT) (reasons (Compile file name) i) (first_here (read_reasons r.file FILE_LIMIT) (program_reasons r.file)) before mid s r.refuses)
+
+  module _ (text : List ℕ) (held : IsHeld before.told file FILE_LIMIT text) where
+    pub compile_refused : (s : Status) → Refuses (program_reasons (Some text)) s → Ends (Compile file name) before mid out out s
+    unfolding one_file
+    compile_refused s h =
+        contents_end (Compile file name) before mid out keeps.told (one_file text) held.found s
+        (refuses_map (program_reasons (Some text)) (reasons (Compile file name) (one_file text)) (λ t. first_behind (read_reasons (Some text) FILE_LIMIT) (program_reasons (Some text)) t (read_passed text FILE_LIMIT held.fits)) s h)
+
+    module _ (p : Program) (means : Means text p) (accepted : NoneHolds (program_reasons (Some text))) (image : Image) (faithful : Faithful p image) (now : StoreSeen) where
+      compile_none : NoneHolds (reasons (Compile file name) (one_file text))
+      unfolding one_file
+      compile_none = none_both (read_reasons (Some text) FILE_LIMIT) (program_reasons (Some text)) (read_passed text FILE_LIMIT held.fits) accepted
+
+      pub compile_written : (r : Result (Unit {0}) Status) → OnOk r ((bytes : List ℕ) × Spells bytes image × (now.told ≡ option_map (with_file name bytes) mid.told)) → IfErr r (WriteRefused mid now) → Ends (Compile file name) before now out out (status_of r)
+      unfolding one_file
+      compile_written (Ok done) w h =
+          let written : List Written = record { name = name; bytes = w.0 } ∷ [] in
+          record {
+            input = one_file text;
+            printed = [];
+            written = written;
+            is_input = held.found;
+            answers = inr (compile_none, ((image, record { source = text; program = p; bytes = w.0; found = refl; means = means; spells = w.1; faithful = faithful; writes = refl }), refl, refl));
+            holds = w.2 ∙ ap (option_map (with_file name w.0)) keeps.told ∙ written_one name w.0 before.told;
+            prints = told_nothing out.told;
+          }
+      compile_written (Err s) w h = write_ends (Compile file name) before mid now out keeps (one_file text) held.found compile_none s h
+
+-- run IMAGE
+module _ (name : List ℕ) (r : RunWords) (before now : StoreSeen) (out : SinkSeen) (told : now.told ≡ before.told) where
+  pub run_unread : (s : Status) → RunReadRefused before.told name IMAGE_LIMIT r.schedule before now s → Ends (Run name r) before now out out s
+  run_unread s x =
+      let i : Input = record { first = x.file; schedule = x.lines } in
+      reads_end (Run name r) before now out told i (x.found, x.schedule_found) s
+      (reads_map (two_reads x.file IMAGE_LIMIT x.lines) (reasons (Run name r) i) (first_here (two_reads x.file IMAGE_LIMIT x.lines) (also (image_reasons x.file) (line_reasons x.lines))) before now s x.refuses)
+
+  module _ (bytes schedule : List ℕ) (held : IsHeld before.told name IMAGE_LIMIT bytes) (schedule_held : IsHeld before.told r.schedule SCHEDULE_LIMIT schedule) where
+    run_input : Input
+    run_input = record { first = Some bytes; schedule = Some schedule }
+
+    run_passed : NoneHolds (two_reads (Some bytes) IMAGE_LIMIT (Some schedule))
+    run_passed = none_both (read_reasons (Some bytes) IMAGE_LIMIT) (read_reasons (Some schedule) SCHEDULE_LIMIT) (read_passed bytes IMAGE_LIMIT held.fits) (read_passed schedule SCHEDULE_LIMIT schedule_held.fits)
+
+    pub run_refused : (s : Status) → Refuses (also (image_reasons (Some bytes)) (line_reasons (Some schedule))) s → Ends (Run name r) before now out out s
+    unfolding run_input
+    run_refused s h =
+        contents_end (Run name r) before now out told run_input (held.found, schedule_held.found) s
+        (refuses_map (also (image_reasons (Some bytes)) (line_reasons (Some schedule))) (reasons (Run name r) run_input) (λ t. first_behind (two_reads (Some bytes) IMAGE_LIMIT (Some schedule)) (also (image_reasons (Some bytes)) (line_reasons (Some schedule))) t run_passed) s h)
+
+    pub run_run : (image : Image) (lines : List Numbered) → Spells bytes image → HasActions schedule lines → NoneHolds (also (image_reasons (Some bytes)) (line_reasons (Some schedule))) → (out_now : SinkSeen) (s : Status) → ImageRan image r.messages lines out out_now s → Ends (Run name r) before now out out_now s
+    unfolding run_input
+    run_run image lines spells actions none out_now s ran =
+        run_ends (Run name r) before now out out_now run_input (held.found, schedule_held.found) (none_both (two_reads (Some bytes) IMAGE_LIMIT (Some schedule)) (also (image_reasons (Some bytes)) (line_reasons (Some schedule))) run_passed none) [] (told ∙ written_nothing before.told) image r.messages lines
+        (λ t printed runs. ((bytes, image, refl, spells, record { text = schedule; lines = lines; found = refl; actions = actions; runs = runs }), refl))
+        (λ printed calm cut. (image, (bytes, refl, spells), (schedule, lines, refl, actions, calm, cut), refl)) s ran
+
+-- go FILE IMAGE
+module _ (file name : List ℕ) (r : RunWords) (before mid : StoreSeen) (out : SinkSeen) (keeps : KeepsFiles before mid) where
+  pub go_unread : (s : Status) → RunReadRefused before.told file FILE_LIMIT r.schedule before mid s → Ends (Go file name r) before mid out out s
+  go_unread s x =
+      let i : Input = record { first = x.file; schedule = x.lines } in
+      reads_end (Go file name r) before mid out keeps.told i (x.found, x.schedule_found) s
+      (reads_map (two_reads x.file FILE_LIMIT x.lines) (reasons (Go file name r) i) (first_here (two_reads x.file FILE_LIMIT x.lines) (also (program_reasons x.file) (line_reasons x.lines))) before mid s x.refuses)
+
+  module _ (text schedule : List ℕ) (held : IsHeld before.told file FILE_LIMIT text) (schedule_held : IsHeld before.told r.schedule SCHEDULE_LIMIT schedule) where
+    go_input : Input
+    go_input = record { first = Some text; schedule = Some schedule }
+
+    go_passed : NoneHolds (two_reads (Some text) FILE_LIMIT (Some schedule))
+    go_passed = none_both (read_reasons (Some text) FILE_LIMIT) (read_reasons (Some schedule) SCHEDULE_LIMIT) (read_passed text FILE_LIMIT held.fits) (read_passed schedule SCHEDULE_LIMIT schedule_held.fits)
+
+    pub go_refused : (s : Status) → Refuses (also (program_reasons (Some text)) (line_reasons (Some schedule))) s → Ends (Go file name r) before mid out out s
+    unfolding go_input
+    go_refused s h =
+        contents_end (Go file name r) before mid out keeps.told go_input (held.found, schedule_held.found) s
+        (refuses_map (also (program_reasons (Some text)) (line_reasons (Some schedule))) (reasons (Go file name r) go_input) (λ t. first_behind (two_reads (Some text) FILE_LIMIT (Some schedule)) (also (program_reasons (Some text)) (line_reasons (Some schedule))) t go_passed) s h)
+
+    module _ (p : Program) (lines : List Numbered) (means : Means text p) (actions : HasActions schedule lines) (accepted : NoneHolds (also (program_reasons (Some text)) (line_reasons (Some schedule)))) where
+      go_none : NoneHolds (reasons (Go file name r) go_input)
+      unfolding go_input
+      go_none = none_both (two_reads (Some text) FILE_LIMIT (Some schedule)) (also (program_reasons (Some text)) (line_reasons (Some schedule))) go_passed accepted
+
+      pub go_unwritten : (now : StoreSeen) (s : Status) → WriteRefused mid now s → Ends (Go file name r) before now out out s
+      unfolding go_input
+      go_unwritten now s h = write_ends (Go file name r) before mid now out keeps go_input (held.found, schedule_held.found) go_none s h
+
+      pub go_run : (image : Image) → Faithful p image → (now : StoreSeen) → (bytes : List ℕ) × Spells bytes image × (now.told ≡ option_map (with_file name bytes) mid.told) → (out_now : SinkSeen) (s : Status) → ImageRan image r.messages lines out out_now s → Ends (Go file name r) before now out out_now s
+      unfolding go_input
+      go_run image faithful now w out_now s ran =
+          run_ends (Go file name r) before now out out_now go_input (held.found, schedule_held.found) go_none (record { name = name; bytes = w.0 } ∷ []) (w.2 ∙ ap (option_map (with_file name w.0)) keeps.told ∙ written_one name w.0 before.told) image r.messages lines
+          (λ t printed runs.
+          (image, record { source = text; program = p; bytes = w.0; found = refl; means = means; spells = w.1; faithful = faithful; writes = refl }, record { text = schedule; lines = lines; found = refl; actions = actions; runs = runs }))
+          (λ printed calm cut.
+          (image, record { source = text; program = p; bytes = w.0; found = refl; means = means; spells = w.1; faithful = faithful; writes = refl }, (schedule, lines, refl, actions, calm, cut))) s ran
+
+-- disasm IMAGE
+module _ (name : List ℕ) (before now : StoreSeen) (out : SinkSeen) (told : now.told ≡ before.told) where
+  pub disasm_unread : (s : Status) → ReadRefused before.told name IMAGE_LIMIT before now s → Ends (Disasm name) before now out out s
+  disasm_unread s r =
+      let i : Input = record { first = r.file; schedule = None } in
+      reads_end (Disasm name) before now out told i r.found s (reads_map (read_reasons r.file IMAGE_LIMIT) (reasons (Disasm name) i) (first_here (read_reasons r.file IMAGE_LIMIT) (image_reasons r.file)) before now s r.refuses)
+
+  module _ (bytes : List ℕ) (held : IsHeld before.told name IMAGE_LIMIT bytes) where
+    pub disasm_refused : (s : Status) → Refuses (image_reasons (Some bytes)) s → Ends (Disasm name) before now out out s
+    unfolding one_file
+    disasm_refused s h =
+        contents_end (Disasm name) before now out told (one_file bytes) held.found s
+        (refuses_map (image_reasons (Some bytes)) (reasons (Disasm name) (one_file bytes)) (λ t. first_behind (read_reasons (Some bytes) IMAGE_LIMIT) (image_reasons (Some bytes)) t (read_passed bytes IMAGE_LIMIT held.fits)) s h)
+
+    module _ (image : Image) (spells : Spells bytes image) (accepted : NoneHolds (image_reasons (Some bytes))) (text : List ℕ) (lists : text ≡ listing_text image) (out_now : SinkSeen) where
+      disasm_none : NoneHolds (reasons (Disasm name) (one_file bytes))
+      unfolding one_file
+      disasm_none = none_both (read_reasons (Some bytes) IMAGE_LIMIT) (image_reasons (Some bytes)) (read_passed bytes IMAGE_LIMIT held.fits) accepted
+
+      pub disasm_put : (r : Result (Unit {0}) Status) → OnOk r (out_now.told ≡ option_map (λ t. t ++ text) out.told) → IfErr r (LinesRefused text out out_now) → Ends (Disasm name) before now out out_now (status_of r)
+      unfolding one_file
+      disasm_put (Ok done) e h = record {
+        input = one_file bytes;
+        printed = text;
+        written = [];
+        is_input = held.found;
+        answers = inr (disasm_none, (record { bytes = bytes; image = image; found = refl; spells = spells; prints = lists }, refl, refl));
+        holds = told ∙ written_nothing before.told;
+        prints = e;
+      }
+      disasm_put (Err WriteFailed) e h =
+          let listed : Listed (one_file bytes) (h.1.0 ++ h.1.1) = record { bytes = bytes; image = image; found = refl; spells = spells; prints = sym h.1.2 ∙ lists } in
+          (one_file bytes, held.found, disasm_none, inr (h.0, record { printed = h.1.0; written = []; is_part = (h.1.1, listed, refl); holds = told ∙ written_nothing before.told; prints = h.1.3 }))
+      disasm_put (Err Memory) e h = tt
+      disasm_put (Err Done) e h = absurd h
+      disasm_put (Err ReadFailed) e h = absurd h
+      disasm_put (Err Missing) e h = absurd h
+      disasm_put (Err (Long seen limit)) e h = absurd h
+      disasm_put (Err (Text fault)) e h = absurd h
+      disasm_put (Err (ProgramRefused rule at seen)) e h = absurd h
+      disasm_put (Err (ImageRefused fault)) e h = absurd h
+      disasm_put (Err (Step line)) e h = absurd h
+      disasm_put (Err (Message fault)) e h = absurd h
+      disasm_put (Err NotBuilt) e h = absurd h
+
+-- assemble LISTING IMAGE
+module _ (file name : List ℕ) (before mid : StoreSeen) (out : SinkSeen) (keeps : KeepsFiles before mid) where
+  pub assemble_unread : (s : Status) → ReadRefused before.told file LISTING_LIMIT before mid s → Ends (Assemble file name) before mid out out s
+  assemble_unread s r =
+      let i : Input = record { first = r.file; schedule = None } in
+      reads_end (Assemble file name) before mid out keeps.told i r.found s (reads_map (read_reasons r.file LISTING_LIMIT) (reasons (Assemble file name) i) (first_here (read_reasons r.file LISTING_LIMIT) (listing_reasons r.file)) before mid s r.refuses)
+
+  module _ (text : List ℕ) (held : IsHeld before.told file LISTING_LIMIT text) where
+    pub assemble_refused : (s : Status) → Refuses (listing_reasons (Some text)) s → Ends (Assemble file name) before mid out out s
+    unfolding one_file
+    assemble_refused s h =
+        contents_end (Assemble file name) before mid out keeps.told (one_file text) held.found s
+        (refuses_map (listing_reasons (Some text)) (reasons (Assemble file name) (one_file text)) (λ t. first_behind (read_reasons (Some text) LISTING_LIMIT) (listing_reasons (Some text)) t (read_passed text LISTING_LIMIT held.fits)) s h)
+
+    module _ (image : Image) (means : Assembles text (Made (numbers_of image) image.memory)) (accepted : NoneHolds (listing_reasons (Some text))) (now : StoreSeen) where
+      assemble_none : NoneHolds (reasons (Assemble file name) (one_file text))
+      unfolding one_file
+      assemble_none = none_both (read_reasons (Some text) LISTING_LIMIT) (listing_reasons (Some text)) (read_passed text LISTING_LIMIT held.fits) accepted
+
+      pub assemble_written : (r : Result (Unit {0}) Status) → OnOk r ((bytes : List ℕ) × Spells bytes image × (now.told ≡ option_map (with_file name bytes) mid.told)) → IfErr r (WriteRefused mid now) → Ends (Assemble file name) before now out out (status_of r)
+      unfolding one_file
+      assemble_written (Ok done) w h =
+          let written : List Written = record { name = name; bytes = w.0 } ∷ [] in
+          record {
+            input = one_file text;
+            printed = [];
+            written = written;
+            is_input = held.found;
+            answers = inr (assemble_none, (record { text = text; image = image; bytes = w.0; found = refl; means = means; spells = w.1; writes = refl }, refl, refl));
+            holds = w.2 ∙ ap (option_map (with_file name w.0)) keeps.told ∙ written_one name w.0 before.told;
+            prints = told_nothing out.told;
+          }
+      assemble_written (Err s) w h = write_ends (Assemble file name) before mid now out keeps (one_file text) held.found assemble_none s h
