@@ -51,6 +51,8 @@ pub record IsInside (i : Image) : Type 0 where
   pub size : length i.memory ≤ GREATEST_MEMORY
   pub few_regions : length i.regions ≤ 4096
   pub few : length i.receives ≤ 16
+  pub few_queues : length i.queues ≤ 65535
+  pub domains : All (λ (row : QueueRow). row.domain < length i.receives) i.queues
   pub regions : EndsBy (length i.memory) i.regions
   pub queues : All (IsRing (length i.memory)) i.queues
   pub receives : All (λ (r : Receive). r.base + r.len ≤ length i.memory) i.receives
@@ -81,6 +83,7 @@ record RowsInside (n : Numbers) : Type 0 where
   regions : All (λ (r : RegionNumbers). r.base + r.len ≤ n.size) n.regions
   queues : All (EndsRing n.size) n.queues
   receives : All (λ (r : Receive). r.base + r.len ≤ n.size) n.receives
+  domains : All (λ (q : QueueNumbers). q.domain < length n.receives) n.queues
 
 rows_inside : (n : Numbers) → row_faults n ≡ [] → RowsInside n
 rows_inside n e17 =
@@ -98,18 +101,20 @@ rows_inside n e17 =
       keys = (both_none _ (breaking 7 (λ earlier (r : RegionNumbers). nat_lt r.domain (length n.receives)) [] n.regions) e7).0;
       regions = each_keeps 10 (region_is_inside n.size) (λ (r : RegionNumbers). r.base + r.len ≤ n.size) (region_ends n.size) [] n.regions ((both_none _ (breaking 10 (region_is_inside n.size) [] n.regions) e10).1);
       queues = each_keeps 14 (ring_is_inside n.size) (EndsRing n.size) (ring_ends n.size) [] n.queues ((both_none _ (breaking 14 (ring_is_inside n.size) [] n.queues) e14).1);
+      domains = each_keeps 12 (λ earlier (q : QueueNumbers). nat_lt q.domain (length n.receives)) (λ (q : QueueNumbers). q.domain < length n.receives) (λ earlier q e. ltb-true q.domain (length n.receives) e) [] n.queues ((both_none _ (breaking 12 (λ earlier (q : QueueNumbers). nat_lt q.domain (length n.receives)) [] n.queues) e12).1);
       receives = each_keeps 17 (receive_is_inside n.size) (λ (r : Receive). r.base + r.len ≤ n.size) (receive_ends n.size) [] n.receives ((both_none _ (breaking 17 (receive_is_inside n.size) [] n.receives) e17).1);
     }
 
-header_bounds : (regions queues receives zero_field size : ℕ) → header_faults regions queues receives zero_field size ≡ [] → (regions ≤ 4096) × (receives ≤ 16) × (size ≤ GREATEST_MEMORY)
+header_bounds : (regions queues receives zero_field size : ℕ) → header_faults regions queues receives zero_field size ≡ [] → (regions ≤ 4096) × (receives ≤ 16) × (size ≤ GREATEST_MEMORY) × (queues ≤ 65535)
 header_bounds regions queues receives zero_field size e5 =
     let last = kept (size % 8 == 0 && nat_le size GREATEST_MEMORY) 5 ((both_none _ (unless (size % 8 == 0 && nat_le size GREATEST_MEMORY) 5) e5).1) in
     let e4 = (both_none _ (unless (size % 8 == 0 && nat_le size GREATEST_MEMORY) 5) e5).0 in
     let e3 = (both_none _ (unless (zero_field == 0) 4) e4).0 in
     let chains = kept (nat_lt 0 receives && nat_le receives 16) 3 ((both_none _ (unless (nat_lt 0 receives && nat_le receives 16) 3) e3).1) in
     let e2 = (both_none _ (unless (nat_lt 0 receives && nat_le receives 16) 3) e3).0 in
+    let rings = kept (nat_le queues 65535) 2 ((both_none _ (unless (nat_le queues 65535) 2) e2).1) in
     let rows = kept (nat_le regions 4096) 1 ((both_none _ (unless (nat_le queues 65535) 2) e2).0) in
-    (leb-true regions 4096 rows, leb-true receives 16 (and_parts (nat_lt 0 receives) _ chains).1, leb-true size GREATEST_MEMORY (and_parts (size % 8 == 0) _ last).1)
+    (leb-true regions 4096 rows, leb-true receives 16 (and_parts (nat_lt 0 receives) _ chains).1, leb-true size GREATEST_MEMORY (and_parts (size % 8 == 0) _ last).1, leb-true queues 65535 rings)
 
 pub image_inside : (i : Image) → Obeys i → IsInside i
 unfolding faults
@@ -121,6 +126,8 @@ image_inside i e =
       size = header.2;
       few_regions = omega (arith, header.0, length-map i.regions region_numbers);
       few = header.1;
+      few_queues = omega (arith, header.3, length-map i.queues queue_numbers);
+      domains = All-unmap (λ (q : QueueNumbers). q.domain < length i.receives) queue_numbers i.queues rows.domains;
       regions = All-unmap (λ (r : RegionNumbers). r.base + r.len ≤ length i.memory) region_numbers i.regions rows.regions;
       queues = All-weaker (λ (q : QueueRow). EndsRing (length i.memory) (queue_numbers q)) (IsRing (length i.memory)) (ring_is (length i.memory)) i.queues (All-unmap (EndsRing (length i.memory)) queue_numbers i.queues rows.queues);
       receives = rows.receives;

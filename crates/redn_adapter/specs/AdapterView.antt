@@ -1,5 +1,5 @@
 -- How the fields of an adapter are seen, and what they keep.
-use Rattle.std.specs.Prelude.{◌≡◌, ℕ, ◌+◌, ◌*◌, ◌<◌, ◌≤◌, length, slice_get, Option, Some, None, IfSome}
+use Rattle.std.specs.Prelude.{◌≡◌, ℕ, ◌+◌, ◌*◌, ◌<◌, ◌≤◌, List, length, slice_get, Option, Some, None, IfSome}
 use Rattle.std.specs.List.{All}
 use Rattle.redn_words.specs.declared.limits.TheConstants.{GREATEST_MEMORY, GREATEST_RING}
 use Rattle.redn_words.specs.declared.types.QueueRow.{QueueRow}
@@ -29,6 +29,12 @@ pub record IsQueueAt (size steps : ℕ) (queue : Queue) : Type 0 where
   pub head : queue.head ≤ steps
   pub counter : queue.counter ≤ steps
 
+-- So many chains are few enough to be numbered, and so are queues, and each queue is one of these chains'.
+pub record AreFew (chains : ℕ) (queues : List Queue) : Type 0 where
+  pub chains_few : chains ≤ 16
+  pub queues_few : length queues ≤ 65535
+  pub domains : All (λ (queue : Queue). queue.row.domain < chains) queues
+
 -- a message has the length of its place
 abbrev pub MailFits : Option Receive → Option Chain → Type 0
 MailFits None c = Unit {0}
@@ -42,3 +48,5 @@ pub record IsAdapter (a : Inside) : Type 0 where
   pub receives : All (λ (r : Receive). r.base + r.len ≤ length a.memory.items) a.receives.items
   pub mails : (k : ℕ) → k < length a.chains.items → MailFits (slice_get a.receives.items k) (slice_get a.chains.items k)
   pub queues : All (IsQueueAt (length a.memory.items) a.steps) a.queues.items
+  pub counts : AreFew (length a.chains.items) a.queues.items
+  pub places : length a.chains.items ≡ length a.receives.items

@@ -112,6 +112,24 @@ impl Adapter {
         &self.memory
     }
 
+    /// How many chains it has. Each queue is one of theirs.
+    pub fn chain_count(&self) -> u32
+        ensures count { result ≡ length self.now.state.chains }
+        ensures places { result ≡ length self.now.state.receives }
+        ensures few { result ≤ 16 }
+        ensures domains { All (λ u. u.row.domain < result) self.now.state.queues }
+    {
+        self.chains.len() as u32
+    }
+
+    /// How many queues it has.
+    pub fn queue_count(&self) -> u32
+        ensures count { result ≡ length self.now.state.queues }
+        ensures few { result ≤ 65535 }
+    {
+        self.queues.len() as u32
+    }
+
     /// A queue, by its number.
     pub fn queue(&self, q: u32) -> Option<&Queue>
         ensures { option_copied result ≡ slice_get self.now.state.queues q }

@@ -1,8 +1,10 @@
 use crate::{Failed, MemSink, MemStore, ReadFault, Sink, StdSink, StdStore, Store, WriteFault};
-use std::alloc::Global;
+use std::alloc::{Allocator, Global};
 use std::cell::Cell;
 use std::fmt::Display;
-use std::io::ErrorKind;
+use std::fs::{Metadata, OpenFile, OpenOptions};
+use std::io::{ErrorKind, Read, Seek, SeekFrom, Write};
+use std::rt::Files;
 use std::test::Fail;
 use std::{env, fs, io, process};
 
@@ -61,6 +63,122 @@ fn a_store_of_the_system_reads_what_it_wrote(rt: HostRuntime) -> Result<(), Fail
     assert_eq!(rt; whole.as_slice(), bytes.as_slice());
     assert_eq!(rt; refused, Some(ReadFault::Long { seen: 20_000 }));
     assert_eq!(rt; emptied.len(), 0);
+    Ok(())
+}
+
+// Files of the system, read and written three bytes a call at most.
+#[derive(Drop)]
+struct Pieces {
+    rt: HostRuntime,
+}
+
+#[derive(Drop)]
+struct Piece {
+    file: <HostRuntime as Files>::File,
+}
+
+impl Read for Piece {
+    fn read(&mut self, buf: &mut [u8]) -> io::Result<usize> {
+        let most = buf.len().min(3);
+        self.file.read(&mut buf[..most])
+    }
+}
+
+impl Write for Piece {
+    fn write(&mut self, buf: &[u8]) -> io::Result<usize> {
+        self.file.write(&buf[..buf.len().min(3)])
+    }
+
+    fn flush(&mut self) -> io::Result<()> {
+        self.file.flush()
+    }
+}
+
+impl Seek for Piece {
+    fn seek(&mut self, to: SeekFrom) -> io::Result<u64> {
+        self.file.seek(to)
+    }
+}
+
+impl OpenFile for Piece {
+    fn metadata(&self) -> io::Result<Metadata> {
+        self.file.metadata()
+    }
+
+    fn set_len(&self, size: u64) -> io::Result<()> {
+        self.file.set_len(size)
+    }
+
+    fn sync_all(&self) -> io::Result<()> {
+        self.file.sync_all()
+    }
+
+    fn sync_data(&self) -> io::Result<()> {
+        self.file.sync_data()
+    }
+}
+
+impl Files for Pieces {
+    type File = Piece;
+
+    type Dir = <HostRuntime as Files>::Dir;
+
+    fn open_file(&self, how: &OpenOptions, path: &str) -> io::Result<Piece> {
+        let file = self.rt.open_file(how, path)?;
+        Ok(Piece { file })
+    }
+
+    fn open_dir(&self, path: &str) -> io::Result<<HostRuntime as Files>::Dir> {
+        self.rt.open_dir(path)
+    }
+
+    fn metadata(&self, path: &str) -> io::Result<Metadata> {
+        Files::metadata(&self.rt, path)
+    }
+
+    fn symlink_metadata(&self, path: &str) -> io::Result<Metadata> {
+        self.rt.symlink_metadata(path)
+    }
+
+    fn copy(&self, from: &str, to: &str) -> io::Result<u64> {
+        self.rt.copy(from, to)
+    }
+
+    fn rename(&self, from: &str, to: &str) -> io::Result<()> {
+        self.rt.rename(from, to)
+    }
+
+    fn remove_file(&self, path: &str) -> io::Result<()> {
+        self.rt.remove_file(path)
+    }
+
+    fn create_dir(&self, path: &str) -> io::Result<()> {
+        self.rt.create_dir(path)
+    }
+
+    fn remove_dir(&self, path: &str) -> io::Result<()> {
+        self.rt.remove_dir(path)
+    }
+
+    fn remove_dir_all<B: Allocator>(&self, alloc: B, path: &str) -> io::Result<()> {
+        self.rt.remove_dir_all(alloc, path)
+    }
+}
+
+#[test]
+fn short_pieces_are_put_together(rt: HostRuntime) -> Result<(), Fail> {
+    let alloc = rt.alloc();
+    let temp = env::temp_dir(&rt)?;
+    let number = process::id(rt.process());
+    let name = format!(in alloc; "{}/redn_outside_pieces_{}", temp.as_str(), number)?;
+    let pieces = Pieces { rt };
+    for bytes in [b"".as_slice(), b"a", b"abc", b"abcdefgh"] {
+        let mut store = StdStore::new(&pieces);
+        store.write(alloc, name.as_str(), bytes)?;
+        let whole = store.read(alloc, name.as_str(), 8)?;
+        assert_eq!(pieces.rt; whole.as_slice(), bytes);
+    }
+    fs::remove_file(&pieces, name.as_str())?;
     Ok(())
 }
 

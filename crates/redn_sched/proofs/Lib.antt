@@ -5,3 +5,10 @@ pub mod Replay
 pub mod BadLines
 mod Worked
 mod WorkedFair
+pub mod Turning
+pub mod Chains
+pub mod Active
+pub mod Rows
+pub mod Choosing
+pub mod NoAction
+pub mod Possible

@@ -11,7 +11,8 @@ use Rattle.redn_words.specs.Access.{access}
 use Rattle.redn_words.specs.Landings.{lands}
 use Rattle.redn_words.specs.States.{State, start}
 use Rattle.redn_words.specs.Steps.{possible, after, may_start, started, counter_of}
-use Rattle.redn_sched.specs.MadeSchedules.{cyclically, fair_from, fair}
+use Rattle.redn_sched.specs.MadeSchedules.{cyclically, first_cursors, fair_next, fair_from, fair}
+use Rattle.redn_sched.specs.MadeView.{HasSameQueues, chain_queues, first_making, moved, followed_by}
 
 after_the_cursor : cyclically 3 (0 ∷ 2 ∷ 3 ∷ 5 ∷ []) ≡ 3 ∷ 5 ∷ 0 ∷ 2 ∷ []
 after_the_cursor = refl
@@ -62,3 +63,43 @@ the_first_follows_the_last = simp gets refl
 a_stopped_queue_ends : fair 9 (start [] (ring 0 0 1 1 ∷ []) (no_message ∷ []) (0 ∷ 9 ∷ replicate 62 0) (None ∷ [])) ≡ Fetch 0 0 ∷ Start 0 ∷ []
 unfolding ring no_message number spelled decoded encoded opcode_named access lands start possible after may_start started counter_of fair
 a_stopped_queue_ends = simp gets refl
+
+-- Chain 0 has no message. Chain 1 has one of no bytes, and its request waits until the message has come: it comes only when chain 1 is taken.
+a_wait_for_the_message : State
+a_wait_for_the_message =
+    start [] (ring 0 0 1 1 ∷ ring 1 64 1 1 ∷ []) (no_message ∷ no_message ∷ [])
+    (replicate 64 0 ++ encoded (record { op = 6; id = 0; lkey = 0; rkey = 0; local = 0; remote = 0; length = 0; first = 65537; second = 1; flags = 0 })) (None ∷ Some [] ∷ [])
+
+a_message_comes_at_its_chains_turn : fair 9 a_wait_for_the_message ≡ Fetch 0 0 ∷ Deliver 1 ∷ Start 0 ∷ Fetch 1 0 ∷ Land 0 0 ∷ Start 1 ∷ Complete 0 ∷ []
+unfolding ring no_message a_wait_for_the_message number spelled decoded encoded opcode_named access lands start possible after may_start started counter_of fair
+a_message_comes_at_its_chains_turn = simp gets refl
+
+-- Here its request is fetched before the message comes: it starts later, at the next turn.
+the_message_comes_late : fair_from 3 (after a_wait_for_the_message (Fetch 1 0)) (record { chain = 1; queues = 0 ∷ 1 ∷ [] }) ≡ Deliver 1 ∷ Fetch 0 0 ∷ Start 1 ∷ []
+unfolding ring no_message a_wait_for_the_message number spelled decoded encoded opcode_named access lands start possible after may_start started counter_of
+the_message_comes_late = simp gets refl
+
+-- chain 0 has no queue here, and chain 1 has two
+queues_by_chain : chain_queues (start [] (ring 1 0 1 1 ∷ ring 1 64 1 1 ∷ []) (no_message ∷ no_message ∷ []) [] (None ∷ None ∷ [])) ≡ [] ∷ (0 ∷ 1 ∷ []) ∷ []
+unfolding ring no_message start
+queues_by_chain = refl
+
+the_first_cursors : first_making message_and_queue ≡ record { cursors = record { chain = 0; queues = 0 ∷ 0 ∷ [] }; queues = [] ∷ (0 ∷ []) ∷ [] }
+unfolding ring no_message message_and_queue start
+the_first_cursors = refl
+
+-- the message is delivered, and chain 1 comes next
+a_move : moved (first_making message_and_queue) (fair_next message_and_queue (first_cursors message_and_queue)) ≡ record { cursors = record { chain = 1; queues = 0 ∷ 0 ∷ [] }; queues = [] ∷ (0 ∷ []) ∷ [] }
+unfolding ring no_message message_and_queue number spelled start possible
+a_move = refl
+
+no_move : moved (first_making message_and_queue) None ≡ first_making message_and_queue
+no_move = refl
+
+rest_of_a_list : followed_by (Some (Deliver 0)) (λ a. a ∷ []) ≡ Deliver 0 ∷ Deliver 0 ∷ []
+rest_of_a_list = refl
+
+-- a delivery leaves the rows of queues
+after_a_delivery : HasSameQueues message_and_queue (after message_and_queue (Deliver 0))
+unfolding ring no_message message_and_queue start after
+after_a_delivery = record { chains = refl; rows = λ n. refl }

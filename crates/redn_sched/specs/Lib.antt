@@ -1,3 +1,4 @@
 pub mod ScheduleText
 pub mod Lines
 pub mod MadeSchedules
+pub mod MadeView

@@ -12,10 +12,10 @@ use Rattle.redn_top.specs.declared.status.Status.{Status}
 use Rattle.redn_top.specs.declared.status.Status.TheVariants.{Done, ReadFailed, Missing, WriteFailed, Long, Text, Program, Image as ImageRefused, Memory, Step, Message, NotBuilt}
 use Rattle.redn_top.specs.Words.{MessageWord}
 use Rattle.redn_top.specs.MessageWords.{messages, word_faults, length_faults}
-use Rattle.redn_top.specs.RunText.{actions_of, events_text, end_schedule}
+use Rattle.redn_top.specs.RunText.{actions_of, events_text, end_schedule, fair_text}
 use Rattle.redn_top.specs.Reasons.{Nil, Or, Never, NoneHolds, First, first_fault, bad_word, message_reasons}
-use Rattle.redn_top.specs.Answers.{BadMessages, ToEnd, Stops, status_of}
-use Rattle.redn_top.specs.Refusals.{FaultsStay, ImageRan, PutRefused, RunRefused, WordsRefused}
+use Rattle.redn_top.specs.Answers.{BadMessages, ToEnd, Stops, status_of, FairMessages, FairEnd}
+use Rattle.redn_top.specs.Refusals.{FaultsStay, FairRan, FairRefused, ImageRan, PutRefused, RunRefused, WordsRefused}
 use Rattle.redn_top.proofs.RunLemmas.{failed_later}
 
 pub told_nothing : (told : Option (List ℕ)) → told ≡ option_map (λ text. text ++ []) told
@@ -57,7 +57,7 @@ module _ (image : Image) (words : List MessageWord) (lines : List Numbered) (bef
     -- the schedule stopped
     pub run_stopped : (s : Status) → RunRefused (start_of image (messages (length image.receives) words)) lines before now s → ImageRan image words lines before now s
     run_stopped (Step line) h = (h.0, Stops line none refl h.1, h.2)
-    run_stopped WriteFailed h = (h.0, none, (h.1.0, inl h.1.1, h.1.2))
+    run_stopped WriteFailed h = (h.0, (h.1.0, (none, inl h.1.1), h.1.2))
     run_stopped Memory h = absurd h
     run_stopped (Message f) h = absurd h
     run_stopped Done h = absurd h
@@ -82,7 +82,7 @@ module _ (image : Image) (words : List MessageWord) (lines : List Numbered) (bef
           (events ++ end_schedule, ToEnd none refl (record { all_possible = possible; text = refl }), e ∙ ap (option_map (λ before. before ++ end_schedule)) run ∙ told_both events end_schedule before.told)
       run_ended (Err WriteFailed) e h =
           let events = events_text (start_of image (messages (length image.receives) words)) (actions_of lines) in
-          (failed_later before mid now stays h.0, none, (events ++ take h.1.0 end_schedule, inr (possible, (h.1.0, refl)), h.1.1 ∙ ap (option_map (λ before. before ++ take h.1.0 end_schedule)) run ∙ told_both events (take h.1.0 end_schedule) before.told))
+          (failed_later before mid now stays h.0, (events ++ take h.1.0 end_schedule, (none, inr (possible, (h.1.0, refl))), h.1.1 ∙ ap (option_map (λ before. before ++ take h.1.0 end_schedule)) run ∙ told_both events (take h.1.0 end_schedule) before.told))
       run_ended (Err Memory) e h = tt
       run_ended (Err (Message f)) e h = absurd h
       run_ended (Err (Step line)) e h = absurd h
@@ -94,3 +94,36 @@ module _ (image : Image) (words : List MessageWord) (lines : List Numbered) (bef
       run_ended (Err (Program rule at seen)) e h = absurd h
       run_ended (Err (ImageRefused fault)) e h = absurd h
       run_ended (Err NotBuilt) e h = absurd h
+
+-- ---- by the fair rules
+
+module _ (image : Image) (words : List MessageWord) (steps : ℕ) (before : SinkSeen) where
+  pub fair_words_refused : (s : Status) → WordsRefused (message_reasons image words) s → FairRan image words steps before before s
+  fair_words_refused Memory h = tt
+  fair_words_refused (Message f) h = ([], FairMessages h refl, told_nothing before.told)
+  fair_words_refused Done h = absurd h
+  fair_words_refused ReadFailed h = absurd h
+  fair_words_refused Missing h = absurd h
+  fair_words_refused WriteFailed h = absurd h
+  fair_words_refused (Long seen limit) h = absurd h
+  fair_words_refused (Text fault) h = absurd h
+  fair_words_refused (Program rule at seen) h = absurd h
+  fair_words_refused (ImageRefused fault) h = absurd h
+  fair_words_refused (Step line) h = absurd h
+  fair_words_refused NotBuilt h = absurd h
+
+  module _ (none : NoneHolds (message_reasons image words)) (now : SinkSeen) where
+    pub fair_ended : (r : Result (Unit {0}) Status) → OnOk r (now.told ≡ option_map (λ t. t ++ fair_text (start_of image (messages (length image.receives) words)) steps) before.told) → IfErr r (FairRefused (start_of image (messages (length image.receives) words)) steps before now) → FairRan image words steps before now (status_of r)
+    fair_ended (Ok done) e h = (fair_text (start_of image (messages (length image.receives) words)) steps, FairEnd none refl refl, e)
+    fair_ended (Err WriteFailed) e h = (h.0, (h.1.0, (none, (h.1.1, h.1.2)), h.1.3))
+    fair_ended (Err Memory) e h = tt
+    fair_ended (Err (Message f)) e h = absurd h
+    fair_ended (Err (Step line)) e h = absurd h
+    fair_ended (Err Done) e h = absurd h
+    fair_ended (Err ReadFailed) e h = absurd h
+    fair_ended (Err Missing) e h = absurd h
+    fair_ended (Err (Long seen limit)) e h = absurd h
+    fair_ended (Err (Text fault)) e h = absurd h
+    fair_ended (Err (Program rule at seen)) e h = absurd h
+    fair_ended (Err (ImageRefused fault)) e h = absurd h
+    fair_ended (Err NotBuilt) e h = absurd h

@@ -14,4 +14,5 @@ pub mod Ending
 pub mod Plans
 pub mod OneReason
 pub mod ListingLines
+pub mod FairRuns
 mod Worked

@@ -1,5 +1,6 @@
 -- Words mean one command, and what it finds gives one reason.
-use Rattle.std.proofs.Common.{◌≡◌, ℕ, List, [], ◌∷◌, map, inl, inr, refl, sym, ap, subst, ◌∙◌}
+use Rattle.std.proofs.Common.{◌≡◌, ℕ, List, [], ◌∷◌, map, inl, inr, refl, sym, ap, subst, ◌∙◌, arith, decimal}
+use Rattle.std.proofs.lemmas.Fmt.{decimal_injective}
 use Rattle.std.specs.Prelude.{All, Option, Some}
 use Rattle.std.proofs.lemmas.List.Elements.{All-head, All-tail}
 use Rattle.redn_outside.specs.Files.{Files}
@@ -10,9 +11,9 @@ use Rattle.redn_top.specs.declared.limits.TheConstants.{FILE_LIMIT, IMAGE_LIMIT,
 use Rattle.redn_top.specs.declared.status.Status.{Status}
 use Rattle.redn_top.specs.declared.status.Status.TheVariants.{Done, ReadFailed, Missing, WriteFailed, Long, Text, Program as ProgramRefused, Image as ImageRefused, Memory, Step, Message, NotBuilt}
 use Rattle.redn_top.specs.StatusText.{code_of}
-use Rattle.redn_top.specs.Words.{Command, Check, Compile, Run, Go, Disasm, Assemble, RunWords, MessageWord, HasSmallChain, IsCommand, IsRun, message_text, run_texts}
-use Rattle.redn_top.specs.Reasons.{Input, IsInput, Reasons, Nil, Or, also, NoneHolds, First, missing, too_long, no_tree, no_program, other_shape, no_image, wrong_line, broken_rows, bad_line, read_reasons, source_reasons, program_reasons, image_reasons, line_reasons, listing_reasons, two_reads, reasons}
-use Rattle.redn_top.specs.Answers.{Written, RunsImage, BadMessages, ToEnd, Stops, Finishes, Answered, Ends, IfSpoken, IsRunEnd, IsFinish, IsFinishOrWant, NoneFailed}
+use Rattle.redn_top.specs.Words.{Command, Check, Compile, Run, Go, Disasm, Assemble, Plan, Schedule, Fair, RunWords, MessageWord, IsPlan, plan_texts, HasSmallChain, IsCommand, IsRun, message_text, run_texts}
+use Rattle.redn_top.specs.Reasons.{Input, IsInput, IsPlanInput, plan_reads, plan_lines, Reasons, Nil, Or, also, NoneHolds, First, missing, too_long, no_tree, no_program, other_shape, no_image, wrong_line, broken_rows, bad_line, read_reasons, source_reasons, program_reasons, image_reasons, line_reasons, listing_reasons, reasons}
+use Rattle.redn_top.specs.Answers.{Written, Ran, RunsFairly, FairMessages, FairEnd, RunsImage, BadMessages, ToEnd, Stops, Finishes, Answered, Ends, IfSpoken, IsRunEnd, IsFinish, IsFinishOrWant, NoneFailed}
 use Rattle.redn_top.proofs.MessageTexts.{one_message}
 
 -- ---- words
@@ -28,18 +29,29 @@ same_messages (m ∷ ms) (n ∷ ns) a b e =
     let rest = same_messages ms ns (All-tail HasSmallChain m ms a) (All-tail HasSmallChain n ns b) tail in
     cc
 
-run_with : List ℕ → List MessageWord → RunWords
-run_with schedule messages = record { schedule = schedule; messages = messages }
+run_with : Plan → List MessageWord → RunWords
+run_with plan messages = record { plan = plan; messages = messages }
 
-same_run : (a b : List ℕ) (c d : List MessageWord) → a ≡ b → c ≡ d → run_with a c ≡ run_with b d
+same_run : (a b : Plan) (c d : List MessageWord) → a ≡ b → c ≡ d → run_with a c ≡ run_with b d
 same_run a b c d e f = cc
+
+one_plan : (p q : Plan) (ms ns : List MessageWord) → IsPlan p → IsPlan q → All HasSmallChain ms → All HasSmallChain ns → plan_texts p (map message_text ms) ≡ plan_texts q (map message_text ns) → (p ≡ q) × (ms ≡ ns)
+one_plan (Schedule f) (Schedule g) ms ns a b c d e =
+    let file : f ≡ g = cc in
+    let texts : map message_text ms ≡ map message_text ns = cc in
+    (cc, same_messages ms ns c d texts)
+one_plan (Fair m) (Fair n) ms ns a b c d e =
+    let digits : decimal m ≡ decimal n = cc in
+    let texts : map message_text ms ≡ map message_text ns = cc in
+    (ap Fair (decimal_injective m n (omega (arith, a)) (omega (arith, b)) digits), same_messages ms ns c d texts)
+one_plan (Schedule f) (Fair n) ms ns a b c d e = absurd (cc)
+one_plan (Fair m) (Schedule g) ms ns a b c d e = absurd (cc)
 
 one_run : (r s : RunWords) → IsRun r → IsRun s → run_texts r ≡ run_texts s → r ≡ s
 unfolding run_with
 one_run r s a b e =
-    let schedule : r.schedule ≡ s.schedule = cc in
-    let texts : map message_text r.messages ≡ map message_text s.messages = cc in
-    same_run r.schedule s.schedule r.messages s.messages schedule (same_messages r.messages s.messages a.1 b.1 texts)
+    let same = one_plan r.plan s.plan r.messages s.messages a.0 b.0 a.1 b.1 e in
+    same_run r.plan s.plan r.messages s.messages same.0 same.1
 
 pub one_command : (words : List (List ℕ)) (c d : Command) → IsCommand words c → IsCommand words d → c ≡ d
 one_command words (Check f) (Check g) a b = let e = sym a.are ∙ b.are in cc
@@ -143,26 +155,46 @@ module _ (found : Option (List ℕ)) where
   line_coded : IsCoded (bad_line found)
   line_coded s t h k = by_code 13 s t (ap code_of h.2.1) (ap code_of k.2.1)
 
+both_coded : (R Q : Reasons) → AreCoded R → AreCoded Q → AreCoded (also R Q)
+both_coded Nil Q a b = b
+both_coded (Or P rest) Q (one, a) b = (one, both_coded rest Q a b)
+
+plan_lines_coded : (p : Plan) (found : Option (List ℕ)) → AreCoded (plan_lines p found)
+plan_lines_coded (Schedule file) found = (line_coded found, tt)
+plan_lines_coded (Fair steps) found = tt
+
+reads_coded : (found : Option (List ℕ)) (limit : ℕ) (p : Plan) (schedule : Option (List ℕ)) → AreCoded (also (read_reasons found limit) (plan_reads p schedule))
+reads_coded found limit (Schedule file) schedule = (missing_coded found, (long_coded found limit, (missing_coded schedule, (long_coded schedule SCHEDULE_LIMIT, tt))))
+reads_coded found limit (Fair steps) schedule = (missing_coded found, (long_coded found limit, tt))
+
 reasons_coded : (c : Command) (i : Input) → AreCoded (reasons c i)
 reasons_coded (Check file) i = (missing_coded i.first, (long_coded i.first FILE_LIMIT, (tree_coded i.first, (program_coded i.first, tt))))
 reasons_coded (Compile file image) i = (missing_coded i.first, (long_coded i.first FILE_LIMIT, (tree_coded i.first, (program_coded i.first, (shape_coded i.first, tt)))))
-reasons_coded (Run image r) i = (missing_coded i.first, (long_coded i.first IMAGE_LIMIT, (missing_coded i.schedule, (long_coded i.schedule SCHEDULE_LIMIT, (image_coded i.first, (line_coded i.schedule, tt))))))
+reasons_coded (Run image r) i =
+    both_coded (also (read_reasons i.first IMAGE_LIMIT) (plan_reads r.plan i.schedule)) (also (image_reasons i.first) (plan_lines r.plan i.schedule)) (reads_coded i.first IMAGE_LIMIT r.plan i.schedule)
+    (image_coded i.first, plan_lines_coded r.plan i.schedule)
 reasons_coded (Disasm image) i = (missing_coded i.first, (long_coded i.first IMAGE_LIMIT, (image_coded i.first, tt)))
 reasons_coded (Assemble listing image) i = (missing_coded i.first, (long_coded i.first LISTING_LIMIT, (wrong_line_coded i.first, (rows_coded i.first, tt))))
-reasons_coded (Go file image r) i = (missing_coded i.first, (long_coded i.first FILE_LIMIT, (missing_coded i.schedule, (long_coded i.schedule SCHEDULE_LIMIT, (tree_coded i.first, (program_coded i.first, (shape_coded i.first, (line_coded i.schedule, tt))))))))
+reasons_coded (Go file image r) i =
+    both_coded (also (read_reasons i.first FILE_LIMIT) (plan_reads r.plan i.schedule)) (also (program_reasons i.first) (plan_lines r.plan i.schedule)) (reads_coded i.first FILE_LIMIT r.plan i.schedule)
+    (tree_coded i.first, (program_coded i.first, (shape_coded i.first, plan_lines_coded r.plan i.schedule)))
+
+same_plan : (files : Files) (p : Plan) (found other : Option (List ℕ)) → IsPlanInput (Some files) p found → IsPlanInput (Some files) p other → (P : Reasons → Reasons → Type 0) → P (plan_reads p found) (plan_lines p found) → P (plan_reads p other) (plan_lines p other)
+same_plan files (Schedule file) found other a b P h = subst (λ (f : Option (List ℕ)). P (read_reasons f SCHEDULE_LIMIT) (line_reasons f)) (sym a ∙ b) h
+same_plan files (Fair steps) found other a b P h = h
 
 -- where the store tells, reasons are those of what it holds
 same_reasons : (files : Files) (c : Command) (i j : Input) → IsInput (Some files) c i → IsInput (Some files) c j → (P : Reasons → Type 0) → P (reasons c i) → P (reasons c j)
 same_reasons files (Check file) i j a b P h = subst (λ (f : Option (List ℕ)). P (also (read_reasons f FILE_LIMIT) (source_reasons f))) (sym a ∙ b) h
 same_reasons files (Compile file image) i j a b P h = subst (λ (f : Option (List ℕ)). P (also (read_reasons f FILE_LIMIT) (program_reasons f))) (sym a ∙ b) h
 same_reasons files (Run image r) i j a b P h =
-    subst (λ (f : Option (List ℕ)). P (also (two_reads f IMAGE_LIMIT j.schedule) (also (image_reasons f) (line_reasons j.schedule)))) (sym a.0 ∙ b.0)
-    (subst (λ (l : Option (List ℕ)). P (also (two_reads i.first IMAGE_LIMIT l) (also (image_reasons i.first) (line_reasons l)))) (sym a.1 ∙ b.1) h)
+    same_plan files r.plan i.schedule j.schedule a.1 b.1 (λ reads lines. P (also (also (read_reasons j.first IMAGE_LIMIT) reads) (also (image_reasons j.first) lines)))
+    (subst (λ (f : Option (List ℕ)). P (also (also (read_reasons f IMAGE_LIMIT) (plan_reads r.plan i.schedule)) (also (image_reasons f) (plan_lines r.plan i.schedule)))) (sym a.0 ∙ b.0) h)
 same_reasons files (Disasm image) i j a b P h = subst (λ (f : Option (List ℕ)). P (also (read_reasons f IMAGE_LIMIT) (image_reasons f))) (sym a ∙ b) h
 same_reasons files (Assemble listing image) i j a b P h = subst (λ (f : Option (List ℕ)). P (also (read_reasons f LISTING_LIMIT) (listing_reasons f))) (sym a ∙ b) h
 same_reasons files (Go file image r) i j a b P h =
-    subst (λ (f : Option (List ℕ)). P (also (two_reads f FILE_LIMIT j.schedule) (also (program_reasons f) (line_reasons j.schedule)))) (sym a.0 ∙ b.0)
-    (subst (λ (l : Option (List ℕ)). P (also (two_reads i.first FILE_LIMIT l) (also (program_reasons i.first) (line_reasons l)))) (sym a.1 ∙ b.1) h)
+    same_plan files r.plan i.schedule j.schedule a.1 b.1 (λ reads lines. P (also (also (read_reasons j.first FILE_LIMIT) reads) (also (program_reasons j.first) lines)))
+    (subst (λ (f : Option (List ℕ)). P (also (also (read_reasons f FILE_LIMIT) (plan_reads r.plan i.schedule)) (also (program_reasons f) (plan_lines r.plan i.schedule)))) (sym a.0 ∙ b.0) h)
 
 -- ---- what follows where the store tells
 
@@ -173,13 +205,23 @@ run_end image words lines s printed (BadMessages (inr (never, inr (also_never, h
 run_end image words lines s printed (ToEnd none e h) = subst IsRunEnd (sym e) tt
 run_end image words lines s printed (Stops line none e h) = subst IsRunEnd (sym e) tt
 
+fair_run_end : (image : Image) (words : List MessageWord) (steps : ℕ) (s : Status) (printed : List ℕ) → RunsFairly image words steps s printed → IsRunEnd s
+fair_run_end image words steps s printed (FairMessages (inl h) e) = subst IsRunEnd (sym h.3) tt
+fair_run_end image words steps s printed (FairMessages (inr (never, inl h)) e) = subst IsRunEnd (sym h.3) tt
+fair_run_end image words steps s printed (FairMessages (inr (never, inr (also_never, h))) e) = absurd h
+fair_run_end image words steps s printed (FairEnd none e h) = subst IsRunEnd (sym e) tt
+
+plan_end : (i : Input) (p : Plan) (words : List MessageWord) (image : Image) (s : Status) (printed : List ℕ) → Ran i p words image s printed → IsRunEnd s
+plan_end i (Schedule file) words image s printed h = run_end image words h.lines s printed h.runs
+plan_end i (Fair steps) words image s printed h = fair_run_end image words steps s printed h
+
 finishes : (c : Command) (i : Input) (s : Status) (printed : List ℕ) (written : List Written) → Finishes c i s printed written → IsFinish c s
 finishes (Check file) i s printed written h = h.done
 finishes (Compile file image) i s printed written h = h.1
-finishes (Run image r) i s printed written h = run_end h.0.1 r.messages h.0.4.lines s printed h.0.4.runs
+finishes (Run image r) i s printed written h = plan_end i r.plan r.messages h.0.1 s printed h.0.4
 finishes (Disasm image) i s printed written h = h.1
 finishes (Assemble listing image) i s printed written h = h.1
-finishes (Go file image r) i s printed written h = run_end h.0 r.messages h.2.lines s printed h.2.runs
+finishes (Go file image r) i s printed written h = plan_end i r.plan r.messages h.0 s printed h.2
 
 module _ (c : Command) (before now : StoreSeen) (out out_now : SinkSeen) (files : Files) (told : before.told ≡ Some files) (i : Input) (is : IsInput (Some files) c i) where
   answered_code : (s t : Status) → First (reasons c i) s → Answered c before now out out_now t → code_of t ≡ code_of s

@@ -51,6 +51,13 @@ events_text-push s (x ∷ acts) a =
     ∙ sym (append_assoc (event_text (shown s x)) (events_text (after s x) acts) (event_text (shown (reached (after s x) acts) a)))
     ∙ ap (λ l. l ++ event_text (shown (reached (after s x) acts) a)) (sym (text-then (shown s x) (all_shown (after s x) acts)))
 
+pub events_text-append : (s : State) (acts more : List Action) → events_text s (acts ++ more) ≡ events_text s acts ++ events_text (reached s acts) more
+events_text-append s [] more = refl
+events_text-append s (x ∷ acts) more =
+    text-then (shown s x) (all_shown (after s x) (acts ++ more)) ∙ ap (λ l. event_text (shown s x) ++ l) (events_text-append (after s x) acts more)
+    ∙ sym (append_assoc (event_text (shown s x)) (events_text (after s x) acts) (events_text (reached (after s x) acts) more))
+    ∙ ap (λ l. l ++ events_text (reached (after s x) acts) more) (sym (text-then (shown s x) (all_shown (after s x) acts)))
+
 -- what one step's answer says
 pub record Stepped (r : Running) (a : Action) (o : Obs) (next : Running) : Type 0 where
   pub can : possible r.state a ≡ true
@@ -84,7 +91,7 @@ option_map-nothing : (told : Option (List ℕ)) → told ≡ option_map (λ text
 option_map-nothing None = refl
 option_map-nothing (Some text) = ap Some (sym (append-nil text))
 
-option_map-twice : (xs ys : List ℕ) (told : Option (List ℕ)) → option_map (λ text. text ++ ys) (option_map (λ text. text ++ xs) told) ≡ option_map (λ text. text ++ (xs ++ ys)) told
+pub option_map-twice : (xs ys : List ℕ) (told : Option (List ℕ)) → option_map (λ text. text ++ ys) (option_map (λ text. text ++ xs) told) ≡ option_map (λ text. text ++ (xs ++ ys)) told
 option_map-twice xs ys None = refl
 option_map-twice xs ys (Some text) = ap Some (append_assoc text xs ys)
 

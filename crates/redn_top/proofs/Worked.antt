@@ -24,11 +24,11 @@ use Rattle.redn_top.specs.declared.status.ImageFault.TheVariants.{Magic, Version
 use Rattle.redn_top.specs.declared.status.MessageFault.TheVariants.{NoChain, Twice, BadHex, Length}
 use Rattle.redn_top.specs.declared.status.Status.TheVariants.{Step, Missing, Long, Text, Program as ProgramRefused, Image, Message}
 use Rattle.redn_top.specs.StatusText.{code_of, status_text}
-use Rattle.redn_top.specs.Words.{Command, Check, Compile, Run, Go, MessageWord, HasSmallChain, IsCommand}
+use Rattle.redn_top.specs.Words.{Command, Check, Compile, Run, Go, MessageWord, HasSmallChain, IsCommand, by_schedule, by_fair}
 use Rattle.redn_top.specs.MessageWords.{messages, word_faults, length_faults}
 use Rattle.redn_top.specs.Reasons.{Input, IsInput, First, reasons}
 use Rattle.redn_top.specs.Sources.{token_place}
-use Rattle.redn_top.specs.RunText.{IsCut, StopsAt, RunsToEnd}
+use Rattle.redn_top.specs.RunText.{IsCut, StopsAt, RunsToEnd, fair_end}
 
 codes_of : (code_of (Step 7) ≡ 11) × (code_of Missing ≡ 16) × (code_of (Long 5 4) ≡ 5) × (code_of (Text (Byte 2)) ≡ 6) × (code_of (ProgramRefused 7 10 0) ≡ 7) × (code_of (Image Magic) ≡ 8) × (code_of (Message (Twice 0)) ≡ 12)
 codes_of = (refl, refl, refl, refl, refl, refl, refl)
@@ -55,7 +55,7 @@ word : ℕ → List ℕ → MessageWord
 word chain hex = record { chain = chain; digits = hex }
 
 go : Command
-go = Go (codes "e.redn") (codes "e.img") (record { schedule = codes "s"; messages = word 0 (codes "2A") ∷ word 12 [] ∷ [] })
+go = Go (codes "e.redn") (codes "e.img") (by_schedule (codes "s") (word 0 (codes "2A") ∷ word 12 [] ∷ []))
 
 its_words : IsCommand (codes "go" ∷ codes "e.redn" ∷ codes "e.img" ∷ codes "--schedule" ∷ codes "s" ∷ codes "0=2A" ∷ codes "12=" ∷ []) go
 unfolding go word digits
@@ -63,6 +63,10 @@ its_words = record {
   are = refl;
   names = ((λ e. omega arith), (λ e. omega arith), ((λ e. omega arith), All-cons HasSmallChain (word 0 (codes "2A")) (word 12 [] ∷ []) (omega arith) (All-cons HasSmallChain (word 12 []) [] (omega arith) (All-nil HasSmallChain))));
 }
+
+fair_words : IsCommand (codes "run" ∷ codes "e.img" ∷ codes "--fair" ∷ codes "100" ∷ codes "0=" ∷ []) (Run (codes "e.img") (by_fair 100 (word 0 [] ∷ [])))
+unfolding word digits
+fair_words = record { are = refl; names = ((λ e. omega arith), (omega arith, All-cons HasSmallChain (word 0 []) [] (omega arith) (All-nil HasSmallChain))) }
 
 compile_words : IsCommand (codes "compile" ∷ codes "e.redn" ∷ codes "e.img" ∷ []) (Compile (codes "e.redn") (codes "e.img"))
 compile_words = record { are = refl; names = ((λ e. omega arith), λ e. omega arith) }
@@ -97,7 +101,7 @@ abbrev held_files : Files
 held_files = with_file (codes "f") (1 ∷ 2 ∷ 3 ∷ []) finite.empty
 
 run : Command
-run = Run (codes "f") (record { schedule = codes "s"; messages = [] })
+run = Run (codes "f") (by_schedule (codes "s") [])
 
 it_is_found : IsInput (Some held_files) run found
 unfolding run found
@@ -138,6 +142,10 @@ the_message_again = record { before = at 1 (Deliver 0) ∷ []; here = at 4 (Deli
 a_message_alone : RunsToEnd first (at 3 (Deliver 0) ∷ []) (codes "end schedule\n")
 unfolding first at first_image spelled encoded start possible after shown event_text
 a_message_alone = record { all_possible = (refl, tt); text = refl }
+
+-- both ends of a run by the fair rules
+fair_ends : (fair_end 1 (Deliver 0 ∷ []) ≡ codes "end steps\n") × (fair_end 2 (Deliver 0 ∷ []) ≡ codes "end quiet\n")
+fair_ends = (refl, refl)
 
 -- the first put failed behind five bytes of the end line
 half_an_end : IsCut first (at 3 (Deliver 0) ∷ []) (codes "end s")

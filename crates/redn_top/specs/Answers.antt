@@ -17,11 +17,11 @@ use Rattle.redn_sched.specs.declared.text.Numbered.{Numbered}
 use Rattle.redn_sched.specs.ScheduleText.{lines_of, Reads}
 use Rattle.redn_top.specs.declared.status.Status.{Status}
 use Rattle.redn_top.specs.declared.status.Status.TheVariants as status
-use Rattle.redn_top.specs.Words.{Command, Check, Compile, Run, Go, Disasm, Assemble, RunWords, MessageWord}
+use Rattle.redn_top.specs.Words.{Command, Check, Compile, Run, Go, Disasm, Assemble, Plan, Schedule, Fair, MessageWord}
 use Rattle.redn_top.specs.MessageWords.{messages}
 use Rattle.redn_top.specs.Reasons.{Input, IsInput, NoneHolds, First, reasons, message_reasons}
 use Rattle.redn_top.specs.Sources.{IsTextOf, Means}
-use Rattle.redn_top.specs.RunText.{IsCut, RunsToEnd, StopsAt}
+use Rattle.redn_top.specs.RunText.{IsCut, fair_text, RunsToEnd, StopsAt}
 
 -- a file that is written: its name and its bytes
 pub record Written : Type 0 where
@@ -77,25 +77,37 @@ pub data RunsImage (image : Image) (words : List MessageWord) (lines : List Numb
   Stops : (line : ℕ) → NoneHolds (message_reasons image words) → s ≡ status.Step line → StopsAt (start_of image (messages (length image.receives) words)) lines line printed → RunsImage image words lines s printed
 
 -- an image is run under the schedule that is found
-pub record Ran (i : Input) (r : RunWords) (image : Image) (s : Status) (printed : List ℕ) : Type 0 where
+pub record RanSchedule (i : Input) (words : List MessageWord) (image : Image) (s : Status) (printed : List ℕ) : Type 0 where
   pub text : List ℕ
   pub lines : List Numbered
   pub found : i.schedule ≡ Some text
   pub actions : Reads 1 (lines_of text) lines None
-  pub runs : RunsImage image r.messages lines s printed
+  pub runs : RunsImage image words lines s printed
+
+-- an image is run with messages by the fair rules: the messages are refused, or all actions are made that the rules give
+pub data RunsFairly (image : Image) (words : List MessageWord) (steps : ℕ) (s : Status) (printed : List ℕ) : Type 0 where
+  FairMessages : First (message_reasons image words) s → printed ≡ [] → RunsFairly image words steps s printed
+  FairEnd : NoneHolds (message_reasons image words) → s ≡ status.Done → printed ≡ fair_text (start_of image (messages (length image.receives) words)) steps → RunsFairly image words steps s printed
+
+-- an image is run by its plan
+abbrev pub Ran : Input → Plan → List MessageWord → Image → Status → List ℕ → Type 0
+Ran i (Schedule file) words image s printed = RanSchedule i words image s printed
+Ran i (Fair steps) words image s printed = RunsFairly image words steps s printed
 
 -- a part of what such a run prints
-abbrev pub IsRunPart : Input → RunWords → Image → List ℕ → Type 0
-IsRunPart i r image printed =
-    (text : List ℕ) × (lines : List Numbered) × (i.schedule ≡ Some text) × Reads 1 (lines_of text) lines None × NoneHolds (message_reasons image r.messages) × IsCut (start_of image (messages (length image.receives) r.messages)) lines printed
+abbrev pub IsRunPart : Input → Plan → List MessageWord → Image → List ℕ → Type 0
+IsRunPart i (Schedule file) words image printed =
+    (text : List ℕ) × (lines : List Numbered) × (i.schedule ≡ Some text) × Reads 1 (lines_of text) lines None × NoneHolds (message_reasons image words) × IsCut (start_of image (messages (length image.receives) words)) lines printed
+IsRunPart i (Fair steps) words image printed =
+    NoneHolds (message_reasons image words) × ((rest : List ℕ) × (fair_text (start_of image (messages (length image.receives) words)) steps ≡ printed ++ rest))
 
 abbrev pub Finishes : Command → Input → Status → List ℕ → List Written → Type 0
 Finishes (Check file) i s printed written = Checked i s printed written
 Finishes (Compile file name) i s printed written = ((image : Image) × Compiled i name image written) × (s ≡ status.Done) × (printed ≡ [])
-Finishes (Run name r) i s printed written = ((bytes : List ℕ) × (image : Image) × (i.first ≡ Some bytes) × Spells bytes image × Ran i r image s printed) × (written ≡ [])
+Finishes (Run name r) i s printed written = ((bytes : List ℕ) × (image : Image) × (i.first ≡ Some bytes) × Spells bytes image × Ran i r.plan r.messages image s printed) × (written ≡ [])
 Finishes (Disasm name) i s printed written = Listed i printed × (s ≡ status.Done) × (written ≡ [])
 Finishes (Assemble listing name) i s printed written = Assembled i name written × (s ≡ status.Done) × (printed ≡ [])
-Finishes (Go file name r) i s printed written = (image : Image) × Compiled i name image written × Ran i r image s printed
+Finishes (Go file name r) i s printed written = (image : Image) × Compiled i name image written × Ran i r.plan r.messages image s printed
 
 -- the first reason that holds is told and nothing else is done, or no reason holds and the command does its work
 abbrev pub Answers : Command → Input → Status → List ℕ → List Written → Type 0
@@ -127,10 +139,10 @@ pub record Stayed (before now : StoreSeen) (out out_now : SinkSeen) : Type 0 whe
 abbrev pub IsPart : Command → Input → List ℕ → List Written → Type 0
 IsPart (Check file) i printed written = (whole : List ℕ) × (part : ℕ) × Checked i status.Done whole written × (printed ≡ take part whole)
 IsPart (Compile file name) i printed written = ⊥
-IsPart (Run name r) i printed written = (image : Image) × ((bytes : List ℕ) × (i.first ≡ Some bytes) × Spells bytes image) × IsRunPart i r image printed × (written ≡ [])
+IsPart (Run name r) i printed written = (image : Image) × ((bytes : List ℕ) × (i.first ≡ Some bytes) × Spells bytes image) × IsRunPart i r.plan r.messages image printed × (written ≡ [])
 IsPart (Disasm name) i printed written = (rest : List ℕ) × Listed i (printed ++ rest) × (written ≡ [])
 IsPart (Assemble listing name) i printed written = ⊥
-IsPart (Go file name r) i printed written = (image : Image) × Compiled i name image written × IsRunPart i r image printed
+IsPart (Go file name r) i printed written = (image : Image) × Compiled i name image written × IsRunPart i r.plan r.messages image printed
 
 -- a put failed: as far as it is told, nothing was printed behind it
 pub record BrokeOff (c : Command) (i : Input) (before now : StoreSeen) (out out_now : SinkSeen) : Type 0 where

@@ -17,7 +17,7 @@ use Rattle.redn_top.specs.declared.status.MessageFault.{MessageFault}
 use Rattle.redn_top.specs.declared.status.TextFault.{TextFault}
 use Rattle.redn_top.specs.declared.status.Status.{Status}
 use Rattle.redn_top.specs.declared.status.Status.TheVariants as status
-use Rattle.redn_top.specs.Words.{Command, Check, Compile, Run, Go, Disasm, Assemble, MessageWord}
+use Rattle.redn_top.specs.Words.{Command, Check, Compile, Run, Go, Disasm, Assemble, Plan, Schedule, Fair, MessageWord}
 use Rattle.redn_top.specs.MessageWords.{messages, word_faults, length_faults}
 use Rattle.redn_top.specs.Sources.{Means, TextRefused, RuleBroken}
 
@@ -33,11 +33,16 @@ pub record Input : Type 0 where
   pub first : Option (List ℕ)
   pub schedule : Option (List ℕ)
 
+-- a plan that is made reads nothing
+abbrev pub IsPlanInput : Option Files → Plan → Option (List ℕ) → Type 0
+IsPlanInput told (Schedule file) found = Finds told file found
+IsPlanInput told (Fair steps) found = Unit {0}
+
 abbrev pub IsInput : Option Files → Command → Input → Type 0
 IsInput told (Check file) i = Finds told file i.first
 IsInput told (Compile file image) i = Finds told file i.first
-IsInput told (Run image r) i = Finds told image i.first × Finds told r.schedule i.schedule
-IsInput told (Go file image r) i = Finds told file i.first × Finds told r.schedule i.schedule
+IsInput told (Run image r) i = Finds told image i.first × IsPlanInput told r.plan i.schedule
+IsInput told (Go file image r) i = Finds told file i.first × IsPlanInput told r.plan i.schedule
 IsInput told (Disasm image) i = Finds told image i.first
 IsInput told (Assemble listing image) i = Finds told listing i.first
 
@@ -144,16 +149,24 @@ listing_reasons found = Or (wrong_line found) (Or (broken_rows found) Nil)
 abbrev pub line_reasons : Option (List ℕ) → Reasons
 line_reasons found = Or (bad_line found) Nil
 
+abbrev pub plan_reads : Plan → Option (List ℕ) → Reasons
+plan_reads (Schedule file) found = read_reasons found SCHEDULE_LIMIT
+plan_reads (Fair steps) found = Nil
+
+abbrev pub plan_lines : Plan → Option (List ℕ) → Reasons
+plan_lines (Schedule file) found = line_reasons found
+plan_lines (Fair steps) found = Nil
+
 abbrev pub two_reads : Option (List ℕ) → ℕ → Option (List ℕ) → Reasons
 two_reads found limit schedule = also (read_reasons found limit) (read_reasons schedule SCHEDULE_LIMIT)
 
 abbrev pub reasons : Command → Input → Reasons
 reasons (Check file) i = also (read_reasons i.first FILE_LIMIT) (source_reasons i.first)
 reasons (Compile file image) i = also (read_reasons i.first FILE_LIMIT) (program_reasons i.first)
-reasons (Run image r) i = also (two_reads i.first IMAGE_LIMIT i.schedule) (also (image_reasons i.first) (line_reasons i.schedule))
+reasons (Run image r) i = also (also (read_reasons i.first IMAGE_LIMIT) (plan_reads r.plan i.schedule)) (also (image_reasons i.first) (plan_lines r.plan i.schedule))
 reasons (Disasm image) i = also (read_reasons i.first IMAGE_LIMIT) (image_reasons i.first)
 reasons (Assemble listing image) i = also (read_reasons i.first LISTING_LIMIT) (listing_reasons i.first)
-reasons (Go file image r) i = also (two_reads i.first FILE_LIMIT i.schedule) (also (program_reasons i.first) (line_reasons i.schedule))
+reasons (Go file image r) i = also (also (read_reasons i.first FILE_LIMIT) (plan_reads r.plan i.schedule)) (also (program_reasons i.first) (plan_lines r.plan i.schedule))
 
 -- with an image at hand, those of messages
 abbrev pub message_reasons : Image → List MessageWord → Reasons

@@ -17,9 +17,9 @@ use Rattle.redn_top.specs.Words.{MessageWord}
 use Rattle.hex.specs.Hex.{decode_of}
 use Rattle.redn_top.specs.MessageWords.{bad_hex, messages}
 use Rattle.redn_top.specs.Sources.{TextRefused, RuleBroken}
-use Rattle.redn_top.specs.RunText.{BreaksOff, IsCut, StopsAt}
+use Rattle.redn_top.specs.RunText.{BreaksOff, IsCut, StopsAt, fair_text}
 use Rattle.redn_top.specs.Reasons.{Finds, NoneHolds, Reasons, First, message_reasons, read_reasons, two_reads}
-use Rattle.redn_top.specs.Answers.{RunsImage}
+use Rattle.redn_top.specs.Answers.{RunsFairly, RunsImage}
 
 -- a file that is held and short enough
 pub record IsHeld (told : Option Files) (name : List ℕ) (limit : ℕ) (bytes : List ℕ) : Type 0 where
@@ -117,18 +117,32 @@ RunRefused s lines before now (status.Step line) = (printed : List ℕ) × Stops
 RunRefused s lines before now status.WriteFailed = PutFailed before now × ((printed : List ℕ) × BreaksOff s lines printed × (now.told ≡ option_map (λ text. text ++ printed) before.told))
 RunRefused s lines before now _ = ⊥
 
--- an image was run with messages under these lines, and this was put
-abbrev pub Printed : Image → List MessageWord → List Numbered → SinkSeen → SinkSeen → Status → Type 0
-Printed image words lines before now s = (printed : List ℕ) × RunsImage image words lines s printed × (now.told ≡ option_map (λ text. text ++ printed) before.told)
+-- something ran so, and this was put
+abbrev pub Printed : (Status → List ℕ → Type 0) → SinkSeen → SinkSeen → Status → Type 0
+Printed Runs before now s = (printed : List ℕ) × Runs s printed × (now.told ≡ option_map (λ text. text ++ printed) before.told)
 
--- how an image was run
+-- how something ran, and what it put before a put failed
+abbrev pub RanBy : (Status → List ℕ → Type 0) → (List ℕ → Type 0) → SinkSeen → SinkSeen → Status → Type 0
+RanBy Runs IsPart before now status.WriteFailed = PutFailed before now × ((printed : List ℕ) × IsPart printed × (now.told ≡ option_map (λ text. text ++ printed) before.told))
+RanBy Runs IsPart before now status.Memory = Unit {0}
+RanBy Runs IsPart before now status.Done = Printed Runs before now status.Done
+RanBy Runs IsPart before now (status.Step line) = Printed Runs before now (status.Step line)
+RanBy Runs IsPart before now (status.Message fault) = Printed Runs before now (status.Message fault)
+RanBy Runs IsPart before now _ = ⊥
+
+-- how an image was run with messages under these lines
 abbrev pub ImageRan : Image → List MessageWord → List Numbered → SinkSeen → SinkSeen → Status → Type 0
-ImageRan image words lines before now status.WriteFailed = PutFailed before now × NoneHolds (message_reasons image words) × ((printed : List ℕ) × IsCut (start_of image (messages (length image.receives) words)) lines printed × (now.told ≡ option_map (λ text. text ++ printed) before.told))
-ImageRan image words lines before now status.Memory = Unit {0}
-ImageRan image words lines before now status.Done = Printed image words lines before now status.Done
-ImageRan image words lines before now (status.Step line) = Printed image words lines before now (status.Step line)
-ImageRan image words lines before now (status.Message fault) = Printed image words lines before now (status.Message fault)
-ImageRan image words lines before now _ = ⊥
+ImageRan image words lines = RanBy (RunsImage image words lines) (λ printed. NoneHolds (message_reasons image words) × IsCut (start_of image (messages (length image.receives) words)) lines printed)
+
+-- how it was run by the fair rules
+abbrev pub FairRan : Image → List MessageWord → ℕ → SinkSeen → SinkSeen → Status → Type 0
+FairRan image words steps =
+    RanBy (RunsFairly image words steps) (λ printed. NoneHolds (message_reasons image words) × ((rest : List ℕ) × (fair_text (start_of image (messages (length image.receives) words)) steps ≡ printed ++ rest)))
+
+-- why a run by the fair rules wasn't put whole, from a state
+abbrev pub FairRefused : State → ℕ → SinkSeen → SinkSeen → Status → Type 0
+FairRefused s steps before now status.WriteFailed = PutFailed before now × ((printed : List ℕ) × (rest : List ℕ) × (fair_text s steps ≡ printed ++ rest) × (now.told ≡ option_map (λ text. text ++ printed) before.told))
+FairRefused s steps before now _ = ⊥
 
 -- why an image wasn't written
 abbrev pub WriteRefused : StoreSeen → StoreSeen → Status → Type 0

@@ -1,11 +1,12 @@
 -- What a run under a schedule prints.
-use Rattle.std.specs.Prelude.{◌≡◌, ◌⊎◌, ℕ, false, take, List, [], ◌∷◌, ◌++◌, map, codes}
+use Rattle.std.specs.Prelude.{◌≡◌, ◌⊎◌, ℕ, false, take, List, [], ◌∷◌, ◌++◌, map, length, codes, ◌==◌, if◌then◌else◌}
 use Rattle.std.specs.List.{flat_map}
 use Rattle.redn_words.specs.declared.types.Action.{Action}
 use Rattle.redn_words.specs.States.{State}
 use Rattle.redn_words.specs.Steps.{possible, shown}
 use Rattle.redn_words.specs.Runs.{AllPossible, reached, all_shown}
 use Rattle.redn_trace.specs.EventText.{event_text}
+use Rattle.redn_sched.specs.MadeSchedules.{fair}
 use Rattle.redn_sched.specs.declared.text.Numbered.{Numbered}
 
 abbrev pub actions_of : List Numbered → List Action
@@ -22,6 +23,14 @@ end_schedule = codes "end schedule\n"
 pub record RunsToEnd (s : State) (lines : List Numbered) (printed : List ℕ) : Type 0 where
   pub all_possible : AllPossible s (actions_of lines)
   pub text : printed ≡ events_text s (actions_of lines) ++ end_schedule
+
+-- the end line of a run by the fair rules: whether all its steps were made, or fewer since nothing useful was left
+abbrev pub fair_end : ℕ → List Action → List ℕ
+fair_end steps acts = if length acts == steps then codes "end steps\n" else codes "end quiet\n"
+
+-- what such a run prints from a state
+abbrev pub fair_text : State → ℕ → List ℕ
+fair_text s steps = events_text s (fair steps s) ++ fair_end steps (fair steps s)
 
 -- a put failed: the events of some actions are printed, and a part of the next one's line
 pub record BreaksOff (s : State) (lines : List Numbered) (printed : List ℕ) : Type 0 where

@@ -5,11 +5,13 @@ ghost use Rattle.std.specs.Option.{option_map};
 ghost use Rattle.redn_words.specs.Runs.{AllPossible};
 ghost use Rattle.redn_trace.specs.EventText.{event_text, IsPrintable};
 ghost use Rattle.redn_adapter.specs.Opening.{opened};
+ghost use Rattle.redn_sched.specs.MadeView.{first_making};
+ghost use Rattle.redn_top.specs.declared.limits.TheConstants.{MOST_STEPS};
 ghost use Rattle.redn_top.specs.MessageWords.{length_faults};
 ghost use Rattle.redn_top.specs.Words.{message_view};
-ghost use Rattle.redn_top.specs.RunText.{actions_of, events_text};
+ghost use Rattle.redn_top.specs.RunText.{actions_of, events_text, fair_text};
 ghost use Rattle.redn_top.specs.Reasons.{Or, Nil, first_fault};
-ghost use Rattle.redn_top.specs.Refusals.{FaultsStay, ImageRan, LinesRefused, PutRefused, RunRefused, WordsRefused};
+ghost use Rattle.redn_top.specs.Refusals.{FairRan, FairRefused, FaultsStay, ImageRan, LinesRefused, PutRefused, RunRefused, WordsRefused};
 ghost use Rattle.redn_top.specs.Answers.{status_of};
 
 use crate::messages::messages_of;
@@ -19,7 +21,7 @@ use redn_adapter::{Adapter, OpenFault, open};
 use redn_disasm::next_line;
 use redn_image::Image;
 use redn_outside::{Failed, Sink};
-use redn_sched::Numbered;
+use redn_sched::{Fair, Numbered};
 use redn_trace::event_line;
 use redn_words::{Messages, Obs};
 use std::alloc::Global;
@@ -91,6 +93,33 @@ fn run<K: Sink>(adapter: &mut Adapter, lines: &[Numbered], out: &mut K) -> Resul
     Ok(())
 }
 
+/// Makes steps by the fair rules, and puts the line of each event and an end line.
+fn run_fair<K: Sink>(
+    adapter: &mut Adapter,
+    fair: &mut Fair,
+    steps: u64,
+    out: &mut K,
+) -> Result<(), Status>
+    requires first { fair.old ≡ first_making adapter.old.state }
+    requires few { adapter.old.steps + steps < 2 ^ 62 }
+    ensures stays { FaultsStay (K.seen out.old) (K.seen out.new) }
+    ensures text { OnOk result ((K.seen out.new).told ≡ option_map
+        (λ before. before ++ fair_text adapter.old.state steps) (K.seen out.old).told) }
+    ensures refused { IfErr result
+        (FairRefused adapter.old.state steps (K.seen out.old) (K.seen out.new)) }
+{
+    for _ in 0..steps {
+        let Some(action) = fair.next_fair(adapter) else {
+            return put(out, b"end quiet\n");
+        };
+        let Some(shown) = adapter.step(action) else {
+            unreachable!()
+        };
+        put_event(out, &shown)?;
+    }
+    put(out, b"end steps\n")
+}
+
 /// Opens an image with messages.
 fn open_with(alloc: Global, image: Image, messages: Messages) -> Result<Adapter, Status>
     requires { length messages ≡ length image.receives }
@@ -107,6 +136,25 @@ fn open_with(alloc: Global, image: Image, messages: Messages) -> Result<Adapter,
             Err(Status::Message(MessageFault::Length { chain, got, want }))
         }
     }
+}
+
+/// Runs an image with messages by the fair rules, and puts the lines of its events and an end line.
+pub fn run_image_fairly<K: Sink>(
+    alloc: Global,
+    image: Image,
+    words: &[MessageWord<'_>],
+    steps: u64,
+    out: &mut K,
+) -> Result<(), Status>
+    requires { steps ≤ MOST_STEPS }
+    ensures stays { FaultsStay (K.seen out.old) (K.seen out.new) }
+    ensures ran { FairRan image (map message_view words.now) steps (K.seen out.old) (K.seen out.new)
+        (status_of result) }
+{
+    let messages = messages_of(alloc, image.receives.as_slice().len(), words)?;
+    let mut adapter = open_with(alloc, image, messages)?;
+    let mut fair = Fair::new(alloc, &adapter)?;
+    run_fair(&mut adapter, &mut fair, steps, out)
 }
 
 /// Runs an image with messages under a schedule, and puts the lines of its events and an end line.

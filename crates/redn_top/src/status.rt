@@ -1,7 +1,7 @@
 ghost use Rattle.std.specs.Prelude.{◌≡◌, ◌≤◌, ◌+◌, ◌++◌, length, take, decimal, codes};
 ghost use Rattle.redn_top.specs.StatusText.{code_of, image_fault, message_fault, status_text};
 
-use itoa::Buffer;
+use redn_trace::{put_number, put_text};
 use redn_words::Memory;
 
 /// Where a source text or a listing goes wrong. Places are in bytes; behind the last token it is the
@@ -97,36 +97,15 @@ pub fn status_code(s: &Status) -> u8
     }
 }
 
-/// Puts a text into the buffer from a place on, and answers where it ends.
-fn put(buf: &mut [u8; 128], at: usize, text: &[u8]) -> usize
-    requires { at + length text.now ≤ 128 }
-    ensures end { result ≡ at + length text.now }
-    ensures front { take result buf.new ≡ take at buf.old ++ text.now }
-{
-    let end = at + text.len();
-    buf[at..end].copy_from_slice(text);
-    end
-}
-
-/// Puts a number in decimal digits.
-fn put_number(buf: &mut [u8; 128], at: usize, number: u64) -> usize
-    requires { at ≤ 108 }
-    ensures within { result ≤ at + 20 }
-    ensures front { take result buf.new ≡ take at buf.old ++ decimal number }
-{
-    let mut digits = Buffer::new();
-    put(buf, at, digits.format(number).as_bytes())
-}
-
 /// Puts a number between two texts.
 fn put_around(buf: &mut [u8; 128], before: &[u8], number: u64, behind: &[u8]) -> usize
     requires { length before.now + length behind.now ≤ 108 }
     ensures fits { result ≤ length before.now + 20 + length behind.now }
     ensures line { take result buf.new ≡ before.now ++ decimal number ++ behind.now }
 {
-    let at = put(buf, 0, before);
-    let at = put_number(buf, at, number);
-    put(buf, at, behind)
+    let at = put_text(&mut buf[..], 0, before);
+    let at = put_number(&mut buf[..], at, number);
+    put_text(&mut buf[..], at, behind)
 }
 
 /// The line of a rule that fails.
@@ -135,11 +114,11 @@ fn put_rule(buf: &mut [u8; 128], rule: u8, at: u32) -> usize
     ensures line { take result buf.new
         ≡ codes "redn: program refused: rule " ++ decimal rule ++ codes " at byte " ++ decimal at ++ codes "\n" }
 {
-    let end = put(buf, 0, b"redn: program refused: rule ");
-    let end = put_number(buf, end, u64::from(rule));
-    let end = put(buf, end, b" at byte ");
-    let end = put_number(buf, end, u64::from(at));
-    put(buf, end, b"\n")
+    let end = put_text(&mut buf[..], 0, b"redn: program refused: rule ");
+    let end = put_number(&mut buf[..], end, u64::from(rule));
+    let end = put_text(&mut buf[..], end, b" at byte ");
+    let end = put_number(&mut buf[..], end, u64::from(at));
+    put_text(&mut buf[..], end, b"\n")
 }
 
 /// The line of a refused image.
@@ -148,7 +127,7 @@ fn put_image(buf: &mut [u8; 128], fault: ImageFault) -> usize
     ensures line { take result buf.new ≡ codes "redn: image refused: " ++ image_fault fault ++ codes "\n" }
 {
     match fault {
-        ImageFault::Magic => put(buf, 0, b"redn: image refused: magic\n"),
+        ImageFault::Magic => put_text(&mut buf[..], 0, b"redn: image refused: magic\n"),
         ImageFault::Version { v } => {
             put_around(buf, b"redn: image refused: version ", u64::from(v), b"\n")
         }
@@ -163,8 +142,8 @@ fn put_image(buf: &mut [u8; 128], fault: ImageFault) -> usize
                 u64::from(number),
                 b" at ",
             );
-            let end = put_number(buf, end, u64::from(index));
-            put(buf, end, b"\n")
+            let end = put_number(&mut buf[..], end, u64::from(index));
+            put_text(&mut buf[..], end, b"\n")
         }
     }
 }
@@ -185,10 +164,10 @@ fn put_message(buf: &mut [u8; 128], fault: MessageFault) -> usize
         MessageFault::BadHex { chain } => put_chain(buf, chain, b" bad hex\n"),
         MessageFault::Length { chain, got, want } => {
             let end = put_chain(buf, chain, b" has ");
-            let end = put_number(buf, end, got);
-            let end = put(buf, end, b" bytes, wants ");
-            let end = put_number(buf, end, want);
-            put(buf, end, b"\n")
+            let end = put_number(&mut buf[..], end, got);
+            let end = put_text(&mut buf[..], end, b" bytes, wants ");
+            let end = put_number(&mut buf[..], end, want);
+            put_text(&mut buf[..], end, b"\n")
         }
     }
 }
@@ -215,8 +194,8 @@ pub fn status_line(s: &Status, buf: &mut [u8; 128]) -> usize
 {
     match s {
         Status::Done => 0,
-        Status::ReadFailed => put(buf, 0, b"redn: read failed\n"),
-        Status::WriteFailed => put(buf, 0, b"redn: write failed\n"),
+        Status::ReadFailed => put_text(&mut buf[..], 0, b"redn: read failed\n"),
+        Status::WriteFailed => put_text(&mut buf[..], 0, b"redn: write failed\n"),
         Status::Long { limit, .. } => {
             put_around(buf, b"redn: file too long: limit ", *limit, b"\n")
         }
@@ -231,12 +210,12 @@ pub fn status_line(s: &Status, buf: &mut [u8; 128]) -> usize
         }
         Status::Program { rule, at, .. } => put_rule(buf, *rule, *at),
         Status::Image(fault) => put_image(buf, *fault),
-        Status::Memory => put(buf, 0, b"redn: out of memory\n"),
+        Status::Memory => put_text(&mut buf[..], 0, b"redn: out of memory\n"),
         Status::Step { line } => {
             put_around(buf, b"redn: step not possible: line ", *line, b"\n")
         }
         Status::Message(fault) => put_message(buf, *fault),
-        Status::NotBuilt => put(buf, 0, b"redn: not built\n"),
-        Status::Missing => put(buf, 0, b"redn: file missing\n"),
+        Status::NotBuilt => put_text(&mut buf[..], 0, b"redn: not built\n"),
+        Status::Missing => put_text(&mut buf[..], 0, b"redn: file missing\n"),
     }
 }

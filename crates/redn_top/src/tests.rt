@@ -1,5 +1,6 @@
 mod adapter;
 mod calls;
+mod fair;
 mod graphs;
 mod images;
 mod listings;
@@ -14,7 +15,7 @@ use std::test::Fail;
 
 pub const ECHO: &[u8] = b"chain echo { arg k; reply k; }";
 
-const MESSAGE: &str = "0=000000000000002a";
+pub const MESSAGE: &str = "0=000000000000002a";
 
 pub const IN_ORDER: &[u8] =
     b"d 0\nf 0 0\ns 0\nf 0 1\ns 0\nl 0 1\nc 0\nf 0 2\ns 0\nf 0 3\ns 0\nl 0 3\nc 0\nf 0 4\ns 0\n\
@@ -279,7 +280,7 @@ fn a_source_is_refused_in_this_order(rt: HostRuntime) -> Result<(), Fail> {
 #[test]
 fn other_words_are_not_built(rt: HostRuntime) -> Result<(), Fail> {
     let alloc = rt.alloc();
-    let refused: [&[&str]; 12] = [
+    let refused: [&[&str]; 15] = [
         &[],
         &["check"],
         &["check", "-e.redn"],
@@ -288,7 +289,10 @@ fn other_words_are_not_built(rt: HostRuntime) -> Result<(), Fail> {
         &["run", "e.img", "--schedule"],
         &["compile", "e.redn"],
         &["go", "", "e.img", "--schedule", "s.txt", MESSAGE],
-        &["go", "e.redn", "e.img", "--fair", "1000", MESSAGE],
+        &["go", "e.redn", "e.img", "--fair", "007", MESSAGE],
+        &["go", "e.redn", "e.img", "--fair", "4000001", MESSAGE],
+        &["go", "e.redn", "e.img", "--fair", MESSAGE],
+        &["go", "e.redn", "e.img", "--shuffle", "1", MESSAGE],
         &["go", "e.redn", "e.img", "--schedule", "s.txt", "00=00"],
         &["go", "e.redn", "e.img", "--schedule", "s.txt", "0"],
         &[

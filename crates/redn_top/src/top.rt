@@ -1,24 +1,24 @@
 //! The commands.
 
-ghost use Rattle.std.specs.Prelude.{◌≡◌, ◌^◌, ◌<◌, List, ℕ, Some, IfErr, OnOk, map, string_bytes};
+ghost use Rattle.std.specs.Prelude.{◌≡◌, ◌≤◌, List, ℕ, Some, IfErr, OnOk, map, string_bytes};
 ghost use Rattle.std.specs.Option.{option_map};
 ghost use Rattle.redn_outside.specs.Files.{Files, OthersStay, with_file};
 ghost use Rattle.redn_image.specs.Spelling.{Spells};
 ghost use Rattle.redn_top.specs.StatusText.{code_of};
 ghost use Rattle.redn_top.specs.declared.status.Status.{Status};
-ghost use Rattle.redn_top.specs.Words.{Command as CommandValue, Check, Compile, Run, Go, Disasm, Assemble, IsCommand, command_view, run_view};
+ghost use Rattle.redn_top.specs.Words.{Command as CommandValue, Check, Compile, Run, Go, Disasm, Assemble, HasNames, IsCommand, IsRun, by_fair, by_schedule, command_view, message_view, run_view};
 ghost use Rattle.redn_top.specs.Reasons.{Input, IsInput, First, NoneHolds, reasons};
 ghost use Rattle.redn_top.specs.Answers.{Ends, IfSpoken, IsFinish, IsFinishOrWant, IsNotBuilt, NoneFailed, Spares, Stayed, status_of};
 ghost use Rattle.redn_top.specs.Refusals.{WriteRefused};
 
-use crate::limits::{FILE_LIMIT, IMAGE_LIMIT, LISTING_LIMIT};
+use crate::limits::{FILE_LIMIT, IMAGE_LIMIT, LISTING_LIMIT, MOST_STEPS};
 use crate::reading::{
     first_program, image_in, image_of_listing, plan_go, plan_run, read_file, read_two,
 };
-use crate::run::{put, put_lines, run_image};
+use crate::run::{put, put_lines, run_image, run_image_fairly};
 use crate::source::checked_text;
 use crate::status::Status;
-use crate::words::{Command, RunWords, WordsFault, command_of};
+use crate::words::{Command, MessageWord, PlanWords, RunWords, WordsFault, command_of};
 use redn_compile::compile;
 use redn_disasm::listing;
 use redn_image::{Image, write_image};
@@ -79,41 +79,88 @@ fn run_compile<S: Store, K: Sink>(
     write_out(alloc, name, &image, store)
 }
 
-/// Runs an image.
+/// Runs an image under a schedule.
 fn run_run<S: Store, K: Sink>(
     alloc: Global,
     name: &str,
-    run: &RunWords<'_>,
+    schedule: &str,
+    messages: &[MessageWord<'_>],
     store: &mut S,
     out: &mut K,
 ) -> Result<(), Status>
-    ensures ends { Ends (Run name.now (run_view run.now)) (S.seen store.old) (S.seen store.new)
-        (K.seen out.old) (K.seen out.new) (status_of result) }
-    ensures spares { Spares (Run name.now (run_view run.now)) (S.seen store.old) (S.seen store.new) }
+    ensures ends { Ends (Run name.now (by_schedule schedule.now (map message_view messages.now)))
+        (S.seen store.old) (S.seen store.new) (K.seen out.old) (K.seen out.new) (status_of result) }
+    ensures spares { Spares (Run name.now (by_schedule schedule.now (map message_view messages.now)))
+        (S.seen store.old) (S.seen store.new) }
 {
-    let (bytes, schedule) = read_two(alloc, store, name, IMAGE_LIMIT, run.schedule)?;
+    let (bytes, schedule) = read_two(alloc, store, name, IMAGE_LIMIT, schedule)?;
     let (image, lines) = plan_run(alloc, &bytes, &schedule)?;
-    run_image(alloc, image, &run.messages, &lines, out)
+    run_image(alloc, image, messages, &lines, out)
 }
 
-/// Writes the image of a source file, and runs it.
+/// Runs an image by the fair rules.
+fn run_fairly<S: Store, K: Sink>(
+    alloc: Global,
+    name: &str,
+    steps: u64,
+    messages: &[MessageWord<'_>],
+    store: &mut S,
+    out: &mut K,
+) -> Result<(), Status>
+    requires { steps ≤ MOST_STEPS }
+    ensures ends { Ends (Run name.now (by_fair steps (map message_view messages.now)))
+        (S.seen store.old) (S.seen store.new) (K.seen out.old) (K.seen out.new) (status_of result) }
+    ensures spares { Spares (Run name.now (by_fair steps (map message_view messages.now)))
+        (S.seen store.old) (S.seen store.new) }
+{
+    let bytes = read_file(alloc, store, name, IMAGE_LIMIT)?;
+    let image = image_in(alloc, &bytes)?;
+    run_image_fairly(alloc, image, messages, steps, out)
+}
+
+/// Writes the image of a source file, and runs it under a schedule.
 fn run_go<S: Store, K: Sink>(
     alloc: Global,
     file: &str,
     name: &str,
-    run: &RunWords<'_>,
+    schedule: &str,
+    messages: &[MessageWord<'_>],
     store: &mut S,
     out: &mut K,
 ) -> Result<(), Status>
-    ensures ends { Ends (Go file.now name.now (run_view run.now)) (S.seen store.old) (S.seen store.new)
-        (K.seen out.old) (K.seen out.new) (status_of result) }
-    ensures spares { Spares (Go file.now name.now (run_view run.now)) (S.seen store.old) (S.seen store.new) }
+    ensures ends { Ends (Go file.now name.now (by_schedule schedule.now (map message_view messages.now)))
+        (S.seen store.old) (S.seen store.new) (K.seen out.old) (K.seen out.new) (status_of result) }
+    ensures spares { Spares (Go file.now name.now (by_schedule schedule.now (map message_view messages.now)))
+        (S.seen store.old) (S.seen store.new) }
 {
-    let (source, schedule) = read_two(alloc, store, file, FILE_LIMIT, run.schedule)?;
+    let (source, schedule) = read_two(alloc, store, file, FILE_LIMIT, schedule)?;
     let (program, lines) = plan_go(alloc, &source, &schedule)?;
     let image = compile(alloc, &program)?;
     write_out(alloc, name, &image, store)?;
-    run_image(alloc, image, &run.messages, &lines, out)
+    run_image(alloc, image, messages, &lines, out)
+}
+
+/// Writes the image of a source file, and runs it by the fair rules.
+fn go_fairly<S: Store, K: Sink>(
+    alloc: Global,
+    file: &str,
+    name: &str,
+    steps: u64,
+    messages: &[MessageWord<'_>],
+    store: &mut S,
+    out: &mut K,
+) -> Result<(), Status>
+    requires { steps ≤ MOST_STEPS }
+    ensures ends { Ends (Go file.now name.now (by_fair steps (map message_view messages.now)))
+        (S.seen store.old) (S.seen store.new) (K.seen out.old) (K.seen out.new) (status_of result) }
+    ensures spares { Spares (Go file.now name.now (by_fair steps (map message_view messages.now)))
+        (S.seen store.old) (S.seen store.new) }
+{
+    let source = read_file(alloc, store, file, FILE_LIMIT)?;
+    let program = first_program(alloc, &source)?;
+    let image = compile(alloc, &program)?;
+    write_out(alloc, name, &image, store)?;
+    run_image_fairly(alloc, image, messages, steps, out)
 }
 
 /// Prints the listing of an image.
@@ -160,6 +207,53 @@ fn finished(ended: Result<(), Status>) -> Status
     }
 }
 
+/// Runs an image by its plan.
+fn run_by_plan<S: Store, K: Sink>(
+    alloc: Global,
+    image: &str,
+    run: &RunWords<'_>,
+    store: &mut S,
+    out: &mut K,
+) -> Result<(), Status>
+    requires { IsRun (run_view run.now) }
+    ensures ends { Ends (Run image.now (run_view run.now)) (S.seen store.old) (S.seen store.new)
+        (K.seen out.old) (K.seen out.new) (status_of result) }
+    ensures spares { Spares (Run image.now (run_view run.now)) (S.seen store.old) (S.seen store.new) }
+{
+    match run.plan {
+        PlanWords::Schedule { file } => run_run(alloc, image, file, &run.messages, store, out),
+        PlanWords::Fair { steps } => run_fairly(alloc, image, steps, &run.messages, store, out),
+    }
+}
+
+/// Writes the image of a source file, and runs it by its plan.
+fn go_by_plan<S: Store, K: Sink>(
+    alloc: Global,
+    file: &str,
+    name: &str,
+    run: &RunWords<'_>,
+    store: &mut S,
+    out: &mut K,
+) -> Result<(), Status>
+    requires { IsRun (run_view run.now) }
+    ensures ends { Ends (Go file.now name.now (run_view run.now)) (S.seen store.old) (S.seen store.new)
+        (K.seen out.old) (K.seen out.new) (status_of result) }
+    ensures spares { Spares (Go file.now name.now (run_view run.now)) (S.seen store.old) (S.seen store.new) }
+{
+    match run.plan {
+        PlanWords::Schedule { file: schedule } => run_go(
+            alloc,
+            file,
+            name,
+            schedule,
+            &run.messages,
+            store,
+            out,
+        ),
+        PlanWords::Fair { steps } => go_fairly(alloc, file, name, steps, &run.messages, store, out),
+    }
+}
+
 /// Runs a command.
 fn obey<S: Store, K: Sink>(
     alloc: Global,
@@ -167,6 +261,7 @@ fn obey<S: Store, K: Sink>(
     store: &mut S,
     out: &mut K,
 ) -> Status
+    requires { HasNames (command_view command.now) }
     ensures ends { Ends (command_view command.now) (S.seen store.old) (S.seen store.new)
         (K.seen out.old) (K.seen out.new) result }
     ensures spares { Spares (command_view command.now) (S.seen store.old) (S.seen store.new) }
@@ -174,10 +269,10 @@ fn obey<S: Store, K: Sink>(
     finished(match command {
         Command::Check { file } => run_check(alloc, file, store, out),
         Command::Compile { file, image } => run_compile(alloc, file, image, store, out),
-        Command::Run { image, run } => run_run(alloc, image, run, store, out),
+        Command::Run { image, run } => run_by_plan(alloc, image, run, store, out),
+        Command::Go { file, image, run } => go_by_plan(alloc, file, image, run, store, out),
         Command::Disasm { image } => run_disasm(alloc, image, store, out),
         Command::Assemble { listing, image } => run_assemble(alloc, listing, image, store, out),
-        Command::Go { file, image, run } => run_go(alloc, file, image, run, store, out),
     })
 }
 

@@ -1,8 +1,9 @@
 //! The words of a command.
 
-ghost use Rattle.std.specs.Prelude.{◌≡◌, ◌≢◌, ◌↔◌, ℕ, List, [], ◌∷◌, Err, IsTrue, IfOk, IfSome, IfNone, All, codes, map, string_bytes};
-ghost use Rattle.redn_top.specs.Words.{Command as CommandValue, HasSmallChain, IsCommand, IsMessageWord, IsName, IsRun, MessageWord as MessageValue, RunWords as RunValue, command_view, message_text, message_view, run_texts, run_view};
+ghost use Rattle.std.specs.Prelude.{◌≡◌, ◌≢◌, ◌↔◌, ◌≤◌, decimal, ℕ, List, [], ◌∷◌, Err, IsTrue, IfOk, IfSome, IfNone, All, codes, map, string_bytes};
+ghost use Rattle.redn_top.specs.Words.{Command as CommandValue, HasSmallChain, IsCommand, IsMessageWord, IsName, IsPlan, IsRun, MessageWord as MessageValue, Plan as PlanValue, RunWords as RunValue, command_view, message_text, message_view, plan_texts, plan_view, run_texts, run_view};
 
+use crate::limits::MOST_STEPS;
 use redn_sched::{read_small, split_field};
 use std::alloc::Global;
 
@@ -13,10 +14,17 @@ pub struct MessageWord<'a> {
     pub digits: &'a [u8],
 }
 
-/// What an image is run with: the file of a schedule, and messages.
+/// What makes the actions of a run: the file of a schedule, or the fair rules for so many steps.
+#[derive(Clone, Copy)]
+pub enum PlanWords<'a> {
+    Schedule { file: &'a str },
+    Fair { steps: u64 },
+}
+
+/// What an image is run with.
 #[derive(Drop)]
 pub struct RunWords<'a> {
-    pub schedule: &'a str,
+    pub plan: PlanWords<'a>,
     pub messages: Vec<MessageWord<'a>>,
 }
 
@@ -95,22 +103,49 @@ fn message_words<'a>(alloc: Global, words: &'a [String]) -> Result<Vec<MessageWo
     Ok(messages)
 }
 
-/// `--schedule F` and message words.
+/// The number of steps that a word gives, or none where it gives none that may be asked for.
+#[tactic(auto, using(std::proofs::lemmas::Fmt::decimal_injective))]
+fn steps_of(word: &str) -> Option<u64>
+    ensures found { IfSome result (λ n. word.now ≡ decimal n) }
+    ensures few { IfSome result (λ n. n ≤ MOST_STEPS) }
+    ensures none { IfNone result ((n : ℕ) → n ≤ MOST_STEPS → word.now ≢ decimal n) }
+{
+    match read_small(word.as_bytes()) {
+        Some(steps) if u64::from(steps) <= MOST_STEPS => Some(u64::from(steps)),
+        _ => None,
+    }
+}
+
+/// `--schedule F` or `--fair N`.
+fn plan_of<'a>(option: &str, value: &'a str) -> Result<PlanWords<'a>, WordsFault>
+    ensures words { IfOk result (λ p. (rest : List (List ℕ)) → option.now ∷ value.now ∷ rest ≡ plan_texts (plan_view p) rest) }
+    ensures plan { IfOk result (λ p. IsPlan (plan_view p)) }
+    ensures refused { result ≡ Err WordsFault.Refused → (p : PlanValue) → IsPlan p → (front behind : List (List ℕ))
+        → option.now ∷ value.now ∷ front ≢ plan_texts p behind }
+{
+    match option {
+        "--schedule" if is_name(value) => Ok(PlanWords::Schedule { file: value }),
+        "--fair" => match steps_of(value) {
+            Some(steps) => Ok(PlanWords::Fair { steps }),
+            None => Err(WordsFault::Refused),
+        },
+        _ => Err(WordsFault::Refused),
+    }
+}
+
+/// A plan and message words.
 fn run_words<'a>(alloc: Global, words: &'a [String]) -> Result<RunWords<'a>, WordsFault>
     ensures words { IfOk result (λ r. map string_bytes words.now ≡ run_texts (run_view r)) }
     ensures run { IfOk result (λ r. IsRun (run_view r)) }
     ensures refused { result ≡ Err WordsFault.Refused → (r : RunValue) → IsRun r
         → map string_bytes words.now ≢ run_texts r }
 {
-    let [option, schedule, messages @ ..] = words else {
+    let [option, value, messages @ ..] = words else {
         return Err(WordsFault::Refused);
     };
-    let schedule = schedule.as_str();
-    if option.as_str() != "--schedule" || !is_name(schedule) {
-        return Err(WordsFault::Refused);
-    }
+    let plan = plan_of(option.as_str(), value.as_str())?;
     let messages = message_words(alloc, messages)?;
-    Ok(RunWords { schedule, messages })
+    Ok(RunWords { plan, messages })
 }
 
 /// `check FILE`.
@@ -175,7 +210,7 @@ fn assemble_of(words: &[String]) -> Result<Command<'_>, WordsFault>
     }
 }
 
-/// `run IMAGE --schedule F`, and messages.
+/// `run IMAGE`, a plan and messages.
 fn run_of<'a>(alloc: Global, words: &'a [String]) -> Result<Command<'a>, WordsFault>
     ensures command { IfOk result (λ c. IsCommand (codes "run" ∷ map string_bytes words.now) (command_view c)) }
     ensures refused { result ≡ Err WordsFault.Refused → (image : List ℕ) (r : RunValue) → IsName image → IsRun r
@@ -193,7 +228,7 @@ fn run_of<'a>(alloc: Global, words: &'a [String]) -> Result<Command<'a>, WordsFa
     }
 }
 
-/// `go FILE IMAGE --schedule F`, and messages.
+/// `go FILE IMAGE`, a plan and messages.
 fn go_of<'a>(alloc: Global, words: &'a [String]) -> Result<Command<'a>, WordsFault>
     ensures command { IfOk result (λ c. IsCommand (codes "go" ∷ map string_bytes words.now) (command_view c)) }
     ensures refused { result ≡ Err WordsFault.Refused → (file image : List ℕ) (r : RunValue)

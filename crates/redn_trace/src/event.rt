@@ -2,19 +2,8 @@ ghost use Rattle.std.specs.Prelude.{◌≡◌, ◌<◌, ◌≤◌, ◌+◌, ◌+
 ghost use Rattle.redn_words.specs.declared.types.Obs.TheVariants as shows;
 ghost use Rattle.redn_trace.specs.EventText.{event_text, line as line_of, field, IsPrintable, IsOfTable};
 
-use itoa::Buffer;
+use crate::buffer::{put_number, put_text};
 use redn_words::Obs;
-
-/// Puts a text into the buffer from a place on, and answers where it ends.
-fn put(buf: &mut [u8; 256], at: usize, text: &[u8]) -> usize
-    requires { at + length text.now ≤ 256 }
-    ensures end { result ≡ at + length text.now }
-    ensures front { take result buf.new ≡ take at buf.old ++ text.now }
-{
-    let end = at + text.len();
-    buf[at..end].copy_from_slice(text);
-    end
-}
 
 /// Puts a number behind a space.
 fn put_field(buf: &mut [u8; 256], at: usize, n: u64) -> usize
@@ -22,9 +11,8 @@ fn put_field(buf: &mut [u8; 256], at: usize, n: u64) -> usize
     ensures end { result ≤ at + 21 }
     ensures front { take result buf.new ≡ take at buf.old ++ field n }
 {
-    let mut digits = Buffer::new();
-    let at = put(buf, at, b" ");
-    put(buf, at, digits.format(n).as_bytes())
+    let at = put_text(&mut buf[..], at, b" ");
+    put_number(&mut buf[..], at, n)
 }
 
 /// Writes a line of a word and numbers to the front of the buffer, and answers its length.
@@ -34,11 +22,11 @@ fn line(buf: &mut [u8; 256], word: &[u8], numbers: &[u64]) -> usize
     ensures fits { result ≤ 256 }
     ensures front { take result buf.new ≡ line_of word.now numbers.now }
 {
-    let mut at = put(buf, 0, word);
+    let mut at = put_text(&mut buf[..], 0, word);
     for n in numbers {
         at = put_field(buf, at, *n);
     }
-    put(buf, at, b"\n")
+    put_text(&mut buf[..], at, b"\n")
 }
 
 /// Writes the line of a reply of the first words.

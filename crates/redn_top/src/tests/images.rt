@@ -100,6 +100,37 @@ fn run(alloc: Global, image: &[u8], schedule: &[u8], messages: &[&str]) -> Resul
     Ok(with_words(alloc, &words, &mut store, &[])?)
 }
 
+/// `run` of these bytes by the fair rules.
+fn run_fairly(alloc: Global, image: &[u8], steps: &str) -> Result<Outcome, Fail> {
+    let mut store = MemStore::new(alloc, Vec::new(alloc));
+    store.add("e.img", image)?;
+    let words = ["run", "e.img", "--fair", steps];
+    Ok(with_words(alloc, &words, &mut store, &[])?)
+}
+
+/// The second request is fetched behind the landing that turns it. Eight steps are all there are to
+/// make.
+#[test]
+fn images_run_by_the_fair_rules(rt: HostRuntime) -> Result<(), Fail> {
+    let alloc = rt.alloc();
+    let table: [(Vec<u8>, &str, &[u8]); 4] = [
+        (rewrites_itself(alloc, 1)?, "100", b"reply 0 7\nend quiet\n"),
+        (rewrites_itself(alloc, 1)?, "8", b"reply 0 7\nend steps\n"),
+        (rewrites_itself(alloc, 1)?, "6", b"end steps\n"),
+        (
+            has_undefined(alloc)?,
+            "100",
+            b"undefined 0 0\nreply 0 7\nend quiet\n",
+        ),
+    ];
+    for (image, steps, printed) in &table {
+        let outcome = run_fairly(alloc, image, steps)?;
+        assert_eq!(rt; outcome.status, Status::Done);
+        assert_eq!(rt; outcome.printed.as_slice(), *printed);
+    }
+    Ok(())
+}
+
 #[test]
 fn a_prefetched_noop_is_stale(rt: HostRuntime) -> Result<(), Fail> {
     let alloc = rt.alloc();
@@ -180,7 +211,7 @@ fn bytes_that_spell_no_image_are_refused(rt: HostRuntime) -> Result<(), Fail> {
         (&repeated, rule),
     ];
     for (bytes, fault) in table {
-        let outcome = run(alloc, bytes, b"", &[])?;
+        let outcome = run_fairly(alloc, bytes, "1")?;
         assert_eq!(rt; outcome.status, Status::Image(fault));
         assert!(rt; outcome.printed.is_empty());
     }

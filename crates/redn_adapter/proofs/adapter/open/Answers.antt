@@ -1,9 +1,11 @@
-use Rattle.std.proofs.Common.{◌≡◌, ◌≤◌, ◌+◌, ◌-◌, ◌^◌, List, ℕ, Option, Vec, Global, [], length, map, refl, sym, ap, ◌∙◌, arith}
+use Rattle.std.proofs.Common.{◌≡◌, ◌≤◌, ◌+◌, ◌-◌, ◌^◌, ◌<◌, List, ℕ, Option, Vec, Global, [], length, map, refl, sym, ap, ◌∙◌, arith}
 use Rattle.std.specs.Option.{option_map}
 use Rattle.std.proofs.lemmas.List.Elements.{All-map, All-weaker}
 use Rattle.redn_words.specs.declared.types.Region.{Region}
 use Rattle.redn_words.specs.declared.types.QueueRow.{QueueRow}
-use Rattle.redn_words.specs.States.{Chain, start, fresh_chain, fresh_queue}
+use Rattle.redn_words.specs.States.{Chain, Queue, start, fresh_chain, fresh_queue}
+use Rattle.redn_image.specs.Rules.{Image as Parts}
+use Rattle.std.proofs.lemmas.List.{length-map}
 use Rattle.redn_image.specs.View.{image_view}
 use Rattle.redn_adapter.specs.AdapterView.{IsRing, IsQueueAt}
 use Rattle.redn_adapter.specs.Opening.{misfits}
@@ -49,12 +51,20 @@ invariant_of-result c =
     let inside = image_inside (image_view a) c.i.invariant in
     let messages = messages_of c.ms.inside.list.items in
     let rows = rw c.deref-3.ensures.value at c.in_ok-queues.ensures in
+    let chains_length : length c.in_ok-chains.chains.items ≡ length a.receives.items = ap length c.in_ok-chains.ensures ∙ length-map messages fresh_chain ∙ ap length c.ms.view_is ∙ c.requires ∙ sym (ap (λ (i : Parts). length i.receives) c.i.view_is) in
     let ring = λ (row : QueueRow) (h : IsRing size row). let first : IsQueueAt size 0 (fresh_queue row) = record { ring = h; head = omega arith; counter = omega arith } in first in
     record {
       size = inside.size;
       regions = rw c.in_ok-regions.ensures.rows inside.regions;
       chains = rw c.in_ok-chains.ensures (All-map (λ (d : Chain). d.received ≤ 0) fresh_chain messages (λ k d l. omega arith));
       receives = inside.receives;
+      counts =
+          rw (chains_length, rows) record {
+            chains_few = omega (arith, inside.few);
+            queues_few = omega (arith, inside.few_queues, length-map a.queues.items fresh_queue);
+            domains = All-map (λ (u : Queue). u.row.domain < length a.receives.items) fresh_queue a.queues.items inside.domains;
+          };
+      places = chains_length;
       mails = λ k l. rw c.in_ok-chains.ensures (mails_fit 0 a.receives.items messages (no_misfit at) k);
       queues = rw rows (All-map (IsQueueAt size 0) fresh_queue a.queues.items (All-weaker (IsRing size) (λ (row : QueueRow). IsQueueAt size 0 (fresh_queue row)) ring a.queues.items inside.queues));
     }

@@ -1,6 +1,6 @@
 use Rattle.std.proofs.Common.{◌≡◌, ◌+◌, ◌<◌, ℕ, true, List, [], ◌∷◌, Some, length, set, refl, sym, ap, ◌∙◌, arith}
 use Rattle.std.specs.Prelude.{slice_get}
-use Rattle.std.proofs.lemmas.List.{get_or_read}
+use Rattle.std.proofs.lemmas.List.{get_or_read, length-set}
 use Rattle.std.proofs.lemmas.List.Elements.{All-weaker, All-set}
 use Rattle.redn_words.specs.declared.types.Flight.{Flight}
 use Rattle.redn_words.specs.declared.types.Action.TheVariants.{Complete}
@@ -16,6 +16,10 @@ use Rattle.redn_adapter.proofs.adapter.Adapter.complete.Goals.{After-complete}
 -- a completion counts one at most
 later : (size steps : ℕ) (v : Queue) → IsQueueAt size steps v → IsQueueAt size (steps + 1) v
 later size steps v h = record { ring = h.ring; head = omega (arith, h.head); counter = omega (arith, h.counter) }
+
+completed_domain : (n : ℕ) (v : Queue) (fs : List Flight) → v.row.domain < n → (completed v fs).row.domain < n
+completed_domain n v [] h = h
+completed_domain n v (f ∷ fs) h = h
 
 completed_at : (size steps : ℕ) (v : Queue) (fs : List Flight) → IsQueueAt size steps v → IsQueueAt size (steps + 1) (completed v fs)
 completed_at size steps v [] h = later size steps v h
@@ -71,5 +75,7 @@ invariant_of-self c =
       chains = λ k d l. omega (arith, inv.chains k d l);
       receives = inv.receives;
       mails = inv.mails;
+      places = inv.places;
+      counts = record { chains_few = inv.counts.chains_few; queues_few = omega (arith, inv.counts.queues_few, length-set a.queues.items c.args.queue c.complete.new.self); domains = All-set (λ (u : Queue). u.row.domain < length a.chains.items) a.queues.items c.args.queue c.complete.new.self (rw c.complete.ensures (completed_domain (length a.chains.items) v v.flights (rw c.index_mut.ensures.value (inv.counts.domains c.args.queue v (within at))))) inv.counts.domains };
       queues = All-set (IsQueueAt size (a.steps + 1)) a.queues.items c.args.queue c.complete.new.self (rw c.complete.ensures (completed_at size a.steps v v.flights old)) (All-weaker (IsQueueAt size a.steps) (IsQueueAt size (a.steps + 1)) (later size a.steps) a.queues.items inv.queues);
     }

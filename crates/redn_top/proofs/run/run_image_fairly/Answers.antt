@@ -1,0 +1,50 @@
+use Rattle.std.proofs.Common.{◌≡◌, ◌++◌, ℕ, List, [], length, map, sym, ap, subst, ◌∙◌}
+use Rattle.std.specs.Prelude.{Option}
+use Rattle.std.specs.Prelude.{OnOk, IfErr}
+use Rattle.std.specs.Option.{option_map}
+use Rattle.std.proofs.lemmas.Result.{err_from_is_err_and}
+use Rattle.std.proofs.lemmas.List.FromFn.{length-map-range_with_len}
+use Rattle.redn_words.specs.States.{State}
+use Rattle.redn_image.specs.Rules.{Image}
+use Rattle.redn_image.specs.Faithful.{start_of}
+use Rattle.redn_adapter.specs.Running.{Running}
+use Rattle.redn_top.specs.Words.{message_view}
+use Rattle.redn_top.specs.MessageWords.{given, messages, word_faults, length_faults}
+use Rattle.redn_top.specs.RunText.{fair_text}
+use Rattle.redn_top.specs.Reasons.{Or, Nil, first_fault, message_reasons}
+use Rattle.redn_top.specs.Refusals.{FairRefused, WordsRefused}
+use Rattle.redn_top.proofs.FirstReason.{words_map}
+use Rattle.redn_top.proofs.ImageRuns.{fair_words_refused, length_first, none_holds, fair_ended}
+use Rattle.redn_top.proofs.run.run_image_fairly.Goals as goal
+
+pub open_with-requires : goal.open_with-requires
+open_with-requires g c =
+    let chains : length c.as_slice.result.now ≡ length c.args.image.receives = ap length (c.as_slice.ensures.value ∙ ap (λ (i : Image). i.receives) c.image.view_is) in
+    ap length c.in_ok-messages.ensures.messages ∙ length-map-range_with_len (given (map message_view c.args.words.now)) 0 (length c.as_slice.result.now) ∙ chains
+
+pub returns-in_err-adapter-clause-ran : goal.returns-in_err-adapter-clause-ran
+returns-in_err-adapter-clause-ran g c =
+    let image = c.args.image in
+    let words = map message_view c.args.words.now in
+    let chains : length c.as_slice.result.now ≡ length c.args.image.receives = ap length (c.as_slice.ensures.value ∙ ap (λ (i : Image). i.receives) c.image.view_is) in
+    let p = err_from_is_err_and c.from_residual-in_err-adapter.result c.from_residual-in_err-adapter.ensures.1 in
+    let given : c.in_ok-messages.messages ≡ messages (length image.receives) words = c.in_ok-messages.ensures.messages ∙ ap (λ n. messages n words) chains in
+    let none : word_faults (length image.receives) [] words ≡ [] = ap (λ n. word_faults n [] words) (sym chains) ∙ c.in_ok-messages.ensures.accepted in
+    let refused = subst (λ (ms : List (Option (List ℕ))). WordsRefused (Or (first_fault (length_faults image.receives ms)) Nil) c.in_err-adapter.field-0.0) given c.in_err-adapter.ensures.refused in
+    rw (p.1, p.2) (fair_words_refused image words c.args.steps (g.K.Sink.seen c.args.out.now) c.in_err-adapter.field-0.0
+    (words_map (Or (first_fault (length_faults image.receives (messages (length image.receives) words))) Nil) (message_reasons image words) (length_first image words [] (g.K.Sink.seen c.args.out.now) none) c.in_err-adapter.field-0.0 refused))
+
+pub returns-clause-ran : goal.returns-clause-ran
+returns-clause-ran g c =
+    let image = c.args.image in
+    let words = map message_view c.args.words.now in
+    let before = g.K.Sink.seen c.args.out.now in
+    let now = g.K.Sink.seen c.run_fair.new.out in
+    let chains : length c.as_slice.result.now ≡ length c.args.image.receives = ap length (c.as_slice.ensures.value ∙ ap (λ (i : Image). i.receives) c.image.view_is) in
+    let given : c.in_ok-messages.messages ≡ messages (length image.receives) words = c.in_ok-messages.ensures.messages ∙ ap (λ n. messages n words) chains in
+    let none : word_faults (length image.receives) [] words ≡ [] = ap (λ n. word_faults n [] words) (sym chains) ∙ c.in_ok-messages.ensures.accepted in
+    let fits = ap (length_faults image.receives) (sym given) ∙ c.in_ok-adapter.ensures.fits in
+    let state : c.in_ok-adapter.adapter.state ≡ start_of image (messages (length image.receives) words) = ap (λ (r : Running). r.state) c.in_ok-adapter.ensures.opened ∙ ap (start_of image) given in
+    let text = subst (λ (s : State). OnOk c.run_fair.result (now.told ≡ option_map (λ t. t ++ fair_text s c.args.steps) before.told)) state c.run_fair.ensures.text in
+    let refused = subst (λ (s : State). IfErr c.run_fair.result (FairRefused s c.args.steps before now)) state c.run_fair.ensures.refused in
+    fair_ended image words c.args.steps before (none_holds image words [] before none fits) now c.run_fair.result text refused
