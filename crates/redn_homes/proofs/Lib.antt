@@ -1,0 +1,10 @@
+pub mod Sided
+pub mod Telling
+pub mod Placing
+pub mod Decoding
+pub mod Reading
+pub mod Showing
+pub mod Touching
+pub mod Segments
+pub mod Listed
+pub mod Abreast

@@ -1,0 +1,5 @@
+pub mod Plans
+pub mod Turns
+pub mod Laws
+pub mod Apart
+pub mod Layouts

@@ -1,0 +1,3 @@
+pub mod GraphMachines
+pub mod RingSides
+pub mod Laws

@@ -1,0 +1,4 @@
+pub mod Starts
+pub mod Rings
+pub mod Rising
+mod Worked

@@ -1,0 +1,3 @@
+pub mod Laps
+pub mod Lapped
+pub mod Places
