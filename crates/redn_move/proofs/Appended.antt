@@ -29,7 +29,7 @@ use Rattle.redn_segment.specs.Templates.{Appends, one_event, may_show, is_filled
 use Rattle.redn_move.specs.Replying.{copies_from, send_words, reply}
 use Rattle.redn_move.proofs.Replying.{reply_does, writes_none, length_copies}
 
-tame_replies : (at : SlotRef) (n : ℕ) (words : List Cell) → IsTame at n (replies words)
+pub tame_replies : (at : SlotRef) (n : ℕ) (words : List Cell) → IsTame at n (replies words)
 tame_replies at n words =
     record {
       alike = λ chain s t aside free h.

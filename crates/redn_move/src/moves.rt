@@ -1,4 +1,4 @@
-ghost use Rattle.std.specs.Prelude.{◌≡◌, ◌+◌, ◌*◌, ◌<◌, ◌^◌, ℕ, [], ◌∷◌, length, OnOk, IfOk};
+ghost use Rattle.std.specs.Prelude.{◌≡◌, ◌++◌, ◌+◌, ◌*◌, ◌<◌, ◌^◌, ℕ, [], ◌∷◌, length, OnOk, IfOk};
 ghost use Rattle.redn_kernel.specs.declared.types.Cell.TheVariants.{Num};
 ghost use Rattle.redn_segment.specs.declared.types.SlotRef.{SlotRef as SpecSlot};
 ghost use Rattle.redn_segment.specs.Building.{drafts_of};
@@ -19,6 +19,7 @@ use std::alloc::Global;
 pub fn set_template(alloc: Global, b: &mut RingBuilder, to: Cell, value: u64) -> Result<(), Memory>
     requires few { length (drafts_of b.old.segments) < 2 ^ 31 }
     requires target { IsTarget to }
+    ensures made { OnOk result (b.new ≡ record b.old { segments = b.old.segments ++ moves.move_word (slot_from b.old.ring (length (drafts_of b.old.segments))) to (Num value) }) }
     ensures appended { OnOk result (Appends b.old b.new 1 1 0 (moves to (Num value))) }
     ensures cost { OnOk result (Costs b.old b.new 5 16) }
     ensures rights { OnOk result (Rights b.old b.new []) }
@@ -39,6 +40,7 @@ fn move_segments(alloc: Global, to: Cell, from: Cell) -> Result<Vec<Segment>, Me
 pub fn move_template(alloc: Global, b: &mut RingBuilder, to: Cell, from: Cell) -> Result<(), Memory>
     requires few { length (drafts_of b.old.segments) < 2 ^ 31 }
     requires target { IsTarget to }
+    ensures made { OnOk result (b.new ≡ record b.old { segments = b.old.segments ++ moves.move_word (slot_from b.old.ring (length (drafts_of b.old.segments))) to from }) }
     ensures appended { OnOk result (Appends b.old b.new 1 1 0 (moves to from)) }
     ensures cost { OnOk result (Costs b.old b.new 5 16) }
     ensures rights { OnOk result (Rights b.old b.new []) }
@@ -70,6 +72,7 @@ fn add_segments(alloc: Global, b: &RingBuilder, to: Cell, by: Cell) -> Result<Ve
 pub fn add_template(alloc: Global, b: &mut RingBuilder, to: Cell, by: Cell) -> Result<(), Memory>
     requires few { length (drafts_of b.old.segments) < 2 ^ 31 }
     requires target { IsTarget to }
+    ensures made { OnOk result (b.new ≡ record b.old { segments = b.old.segments ++ segments_to_add (slot_from b.old.ring (length (drafts_of b.old.segments))) to by }) }
     ensures appended { OnOk result (Appends b.old b.new (add_count by) (add_count by) 0 (adds to by)) }
     ensures cost { OnOk result (Costs b.old b.new (5 * add_count by) (16 * add_count by)) }
     ensures rights { OnOk result (Rights b.old b.new []) }
@@ -106,6 +109,7 @@ pub fn load_template(
 ) -> Result<(), Memory>
     requires few { length (drafts_of b.old.segments) < 2 ^ 31 }
     requires target { IsTarget to }
+    ensures made { OnOk result (b.new ≡ record b.old { segments = b.old.segments ++ moves.load (slot_from b.old.ring (length (drafts_of b.old.segments))) to table offset }) }
     ensures appended { OnOk result (Appends b.old b.new 2 2 0 (loads to table offset (slot_from b.old.ring (length (drafts_of b.old.segments)) 1))) }
     ensures cost { OnOk result (Costs b.old b.new 10 32) }
     ensures rights { OnOk result (Rights b.old b.new []) }
@@ -142,6 +146,7 @@ pub fn store_template(
     from: Cell,
 ) -> Result<(), Memory>
     requires few { length (drafts_of b.old.segments) < 2 ^ 31 }
+    ensures made { OnOk result (b.new ≡ record b.old { segments = b.old.segments ++ moves.store (slot_from b.old.ring (length (drafts_of b.old.segments))) table offset from }) }
     ensures appended { OnOk result (Appends b.old b.new 2 2 0 (stores table offset from
         (slot_from b.old.ring (length (drafts_of b.old.segments)) 1))) }
     ensures cost { OnOk result (Costs b.old b.new 10 32) }
@@ -165,6 +170,7 @@ fn jump_segments(alloc: Global, b: &RingBuilder, to: u32) -> Result<Vec<Segment>
 /// Appends the choice of that next block.
 pub fn jump_template(alloc: Global, b: &mut RingBuilder, to: u32) -> Result<(), Memory>
     requires few { length (drafts_of b.old.segments) < 2 ^ 31 }
+    ensures made { OnOk result (b.new ≡ record b.old { segments = b.old.segments ++ moves.jump (slot_from b.old.ring (length (drafts_of b.old.segments))) to }) }
     ensures appended { OnOk result (Appends b.old b.new 2 1 1 (jumps to (slot_from b.old.ring (length (drafts_of b.old.segments)) 1))) }
     ensures cost { OnOk result (Costs b.old b.new 9 28) }
     ensures rights { OnOk result (Rights b.old b.new []) }

@@ -1,4 +1,4 @@
-ghost use Rattle.std.specs.Prelude.{◌≡◌, ◌+◌, ◌*◌, ◌<◌, ◌≤◌, ◌^◌, [], length, OnOk, IfOk};
+ghost use Rattle.std.specs.Prelude.{◌≡◌, ◌++◌, ◌+◌, ◌*◌, ◌<◌, ◌≤◌, ◌^◌, [], length, OnOk, IfOk};
 ghost use Rattle.redn_segment.specs.Building.{drafts_of};
 ghost use Rattle.redn_segment.specs.Effects.{replies};
 ghost use Rattle.redn_segment.specs.Costs.{Costs};
@@ -56,6 +56,7 @@ pub fn reply_template(alloc: Global, b: &mut RingBuilder, words: &[Cell]) -> Res
     requires few { length (drafts_of b.old.segments) < 2 ^ 31 }
     requires some_word { 1 ≤ length words.now }
     requires few_words { length words.now ≤ 8 }
+    ensures made { OnOk result (b.new ≡ record b.old { segments = b.old.segments ++ reply words.now }) }
     ensures appended { OnOk result
         (Appends b.old b.new 2 (length words.now + 1) 0 (replies words.now)) }
     ensures cost { OnOk result (Costs b.old b.new (length words.now + 5) (4 * length words.now + 16)) }

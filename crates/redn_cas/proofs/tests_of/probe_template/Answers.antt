@@ -44,3 +44,7 @@ returns-clause-rights c =
     let a = c.args in
     let rights = template_rights (λ (slot : ℕ → SlotRef). probe slot a.to a.table a.offset a.key a.hit a.miss) (λ (slot : ℕ → SlotRef). probes a.to a.table a.offset a.key a.hit a.miss (slot 6) (slot 13) (slot 15)) 6 15 1 (probe_is a.to c.requires.target a.table a.offset a.key a.hit a.miss) [] (probe_suits a.to c.requires.target a.table a.offset a.key a.hit a.miss) a.b.now c.push_segments.new.self in
     on_ok_weaker c.push_segments.result (λ e. rights (e ∙ ap (with_more a.b.now) c.in_ok-segments.ensures)) c.push_segments.ensures
+
+pub returns-clause-made : goal.returns-clause-made
+returns-clause-made c =
+    on_ok_weaker c.push_segments.result (λ e. e ∙ ap (with_more c.args.b.now) c.in_ok-segments.ensures) c.push_segments.ensures

@@ -44,3 +44,7 @@ returns-clause-rights c =
     let a = c.args in
     let rights = template_rights (λ (slot : ℕ → SlotRef). test48 slot a.left a.right a.yes a.no) (λ (slot : ℕ → SlotRef). tests_low a.left a.right a.yes a.no (slot 6)) 4 6 1 (test48_is a.left a.right a.yes a.no) [] (test48_suits a.left a.right a.yes a.no) a.b.now c.push_segments.new.self in
     on_ok_weaker c.push_segments.result (λ e. rights (e ∙ ap (with_more a.b.now) c.in_ok-segments.ensures)) c.push_segments.ensures
+
+pub returns-clause-made : goal.returns-clause-made
+returns-clause-made c =
+    on_ok_weaker c.push_segments.result (λ e. e ∙ ap (with_more c.args.b.now) c.in_ok-segments.ensures) c.push_segments.ensures

@@ -44,3 +44,7 @@ returns-clause-rights c =
     let a = c.args in
     let rights = template_rights (λ (slot : ℕ → SlotRef). test64 slot a.left a.right a.yes a.no) (λ (slot : ℕ → SlotRef). tests_all a.left a.right a.yes a.no (slot 10)) 5 10 1 (test64_is a.left a.right a.yes a.no) [] (test64_suits a.left a.right a.yes a.no) a.b.now c.push_segments.new.self in
     on_ok_weaker c.push_segments.result (λ e. rights (e ∙ ap (with_more a.b.now) c.in_ok-segments.ensures)) c.push_segments.ensures
+
+pub returns-clause-made : goal.returns-clause-made
+returns-clause-made c =
+    on_ok_weaker c.push_segments.result (λ e. e ∙ ap (with_more c.args.b.now) c.in_ok-segments.ensures) c.push_segments.ensures

@@ -44,3 +44,7 @@ returns-clause-rights c =
     let a = c.args in
     let rights = template_rights (λ (slot : ℕ → SlotRef). load slot a.to a.table a.offset) (λ (slot : ℕ → SlotRef). loads a.to a.table a.offset (slot 1)) 2 2 0 (load_is a.to a.table a.offset c.requires.target) [] (load_suits a.to a.table a.offset c.requires.target) a.b.now c.push_segments.new.self in
     on_ok_weaker c.push_segments.result (λ e. rights (e ∙ ap (with_more a.b.now) c.in_ok-segments.ensures)) c.push_segments.ensures
+
+pub returns-clause-made : goal.returns-clause-made
+returns-clause-made c =
+    on_ok_weaker c.push_segments.result (λ e. e ∙ ap (with_more c.args.b.now) c.in_ok-segments.ensures) c.push_segments.ensures

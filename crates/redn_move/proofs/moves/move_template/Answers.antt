@@ -44,3 +44,7 @@ returns-clause-rights c =
     let a = c.args in
     let rights = template_rights (λ (slot : ℕ → SlotRef). move_word slot a.to a.from) (λ (slot : ℕ → SlotRef). moves a.to a.from) 1 1 0 (move_is a.to a.from c.requires.target) [] (move_suits a.to a.from c.requires.target) a.b.now c.push_segments.new.self in
     on_ok_weaker c.push_segments.result (λ e. rights (e ∙ ap (with_more a.b.now) (c.in_ok-segments.ensures (slot_from a.b.now.ring (length (drafts_of a.b.now.segments)))))) c.push_segments.ensures
+
+pub returns-clause-made : goal.returns-clause-made
+returns-clause-made c =
+    on_ok_weaker c.push_segments.result (λ e. e ∙ ap (with_more c.args.b.now) (c.in_ok-segments.ensures (slot_from c.args.b.now.ring (length (drafts_of c.args.b.now.segments))))) c.push_segments.ensures

@@ -44,3 +44,7 @@ returns-clause-rights c =
     let a = c.args in
     let rights = template_rights (λ (slot : ℕ → SlotRef). store slot a.table a.offset a.from) (λ (slot : ℕ → SlotRef). stores a.table a.offset a.from (slot 1)) 2 2 0 (store_is a.table a.offset a.from) (a.table ∷ []) (store_suits a.table a.offset a.from) a.b.now c.push_segments.new.self in
     on_ok_weaker c.push_segments.result (λ e. rights (e ∙ ap (with_more a.b.now) c.in_ok-segments.ensures)) c.push_segments.ensures
+
+pub returns-clause-made : goal.returns-clause-made
+returns-clause-made c =
+    on_ok_weaker c.push_segments.result (λ e. e ∙ ap (with_more c.args.b.now) c.in_ok-segments.ensures) c.push_segments.ensures

@@ -27,3 +27,7 @@ returns-clause-cost c =
 pub returns-clause-rights : goal.returns-clause-rights
 returns-clause-rights c =
     on_ok_weaker c.push_segments.result (λ e. reply_rights c.args.words.now c.args.b.now c.push_segments.new.self (e ∙ ap (with_more c.args.b.now) c.in_ok-segments.ensures)) c.push_segments.ensures
+
+pub returns-clause-made : goal.returns-clause-made
+returns-clause-made c =
+    on_ok_weaker c.push_segments.result (λ e. e ∙ ap (with_more c.args.b.now) c.in_ok-segments.ensures) c.push_segments.ensures

@@ -1,0 +1,4 @@
+pub mod Truth
+pub mod Left
+pub mod Parts
+pub mod Stages
