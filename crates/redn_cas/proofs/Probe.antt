@@ -1,4 +1,10 @@
--- A probe looks at a key, loads the word behind it where it matches, and chooses.
+-- A probe looks at a key, loads the word behind it where it matches, and chooses. Slot by slot, each slot being draft0 to draft14 below:
+--   0 to 5    fills: the opcodes of T1 and T2, the operands of both CAS, the offsets of the look and of T1
+--   6, 7      the look reads the key word; the ring for no match goes into the last ENABLE
+--   8 to 10   the key word goes into the identifiers of T1 and T2, and T1's offset is raised by 8
+--   11, 12    each CAS, where the key matches, turns T1 into a READ and T2 into a WRITE
+--   13, 14    T1 loads the value, and T2 puts the ring for a match in place of the other
+--   15        the last ENABLE
 use Rattle.std.proofs.Common.{◌≡◌, ℕ, ◌+◌, ◌%◌, ◌^◌, ◌<◌, ◌≤◌, Bool, true, false, ◌++◌, List, [], ◌∷◌, length, take, refl, sym, ap, ◌∙◌, arith}
 use Rattle.std.specs.Prelude.{◌==◌, if◌then◌else◌}
 use Rattle.std.proofs.lemmas.Bool.Decides.{nat_tests}

@@ -14,7 +14,7 @@ fn words_of(rt: &(impl Env + AllocGlobal)) -> Result<Vec<String>, Status> {
         Ok(args) => args.skip(1).collect(rt.alloc()).map_err(|_| Status::Memory),
         Err(e) if e.kind() == ErrorKind::OutOfMemory => Err(Status::Memory),
         // They aren't text.
-        Err(_) => Err(Status::NotBuilt),
+        Err(_) => Err(Status::Words),
     }
 }
 

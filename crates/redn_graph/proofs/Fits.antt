@@ -111,14 +111,6 @@ module _ (Q : Kernel-F Kernel → Type 0) where
       let P : List Kernel → Type 0 = All (every-Kernel Q) in
       (subst P (sym map_is.0 ∙ ap (λ l. (blocks l).0) is) (held_all (blocks held.0).0), subst P (sym map_is.1 ∙ ap (λ l. (blocks l).1) is) (held_all (blocks held.0).1))
 
--- a table that may be written is there
-writable_by : (tables : List TableInit) (t : ℕ) → ((x : TableInit) × (t < length tables) × (slice_get tables t ≡ Some x) × (get_or tables t x ≡ x)) ⊎ ((length tables ≤ t) × (slice_get tables t ≡ None)) → is_writable (slice_get tables t) ≡ true → t < length tables
-writable_by tables t (inl there) w = there.1
-writable_by tables t (inr past) w = absurd (false_true (sym (ap is_writable past.1) ∙ w))
-
-writable_there : (tables : List TableInit) (t : ℕ) → is_writable (slice_get tables t) ≡ true → t < length tables
-writable_there tables t w = writable_by tables t (slice_get_cases tables t).1 w
-
 move_named_in : (n : Things) (x : ℕ) (a : Word) → (x < n.vars) × IsNamed n.vars a → FitsInstr n (move_of x a)
 move_named_in n x (Var y) h = (h.0, h.1)
 move_named_in n x (Num v) h = h.0
@@ -148,9 +140,9 @@ module _ (n : Things) where
   unfolding IsSoundStatement
   load_fits st x table a is well = let h = well_layer st (Kernel-F.Load x table a) well (ap out-Kernel is ∙ k.outs-Load x table a) in (h.0, h.1, named_cell a h.2)
 
-  pub store_fits : (st : Kernel) (table : ℕ) (a b : Word) → st ≡ k.Store table a b → IsWell n st → (table < length n.tables) × IsCell n (cell_of a) × IsCell n (cell_of b)
+  pub store_fits : (st : Kernel) (table : ℕ) (a b : Word) → st ≡ k.Store table a b → IsWell n st → (is_writable (slice_get n.tables table) ≡ true) × IsCell n (cell_of a) × IsCell n (cell_of b)
   unfolding IsSoundStatement
-  store_fits st table a b is well = let h = well_layer st (Kernel-F.Store table a b) well (ap out-Kernel is ∙ k.outs-Store table a b) in (writable_there n.tables table h.0, named_cell a h.1, named_cell b h.2)
+  store_fits st table a b is well = let h = well_layer st (Kernel-F.Store table a b) well (ap out-Kernel is ∙ k.outs-Store table a b) in (h.0, named_cell a h.1, named_cell b h.2)
 
   pub if_fits : (st : Kernel) (wide : Bool) (a b : Word) (met unmet : List Kernel) → st ≡ k.If wide a b met unmet → IsWell n st → IsCell n (cell_of a) × IsCell n (cell_of b) × AllWell n met × AllWell n unmet
   unfolding IsSoundStatement

@@ -1,10 +1,10 @@
 -- That blocks name only what there is.
-use Rattle.std.specs.Prelude.{◌≡◌, ℕ, ◌<◌, ◌≤◌, List, length, Some, slice_get, All}
+use Rattle.std.specs.Prelude.{◌≡◌, ℕ, ◌<◌, ◌≤◌, true, List, length, Some, slice_get, All}
 use Rattle.redn_kernel.specs.declared.types.TableInit.{TableInit}
 use Rattle.redn_kernel.specs.declared.types.Kernel.{Kernel, every-Kernel}
 use Rattle.redn_kernel.specs.declared.types.Cell.{Cell}
 use Rattle.redn_kernel.specs.declared.types.Cell.TheVariants as cell
-use Rattle.redn_kernel.specs.Program.{IsSoundStatement}
+use Rattle.redn_kernel.specs.Program.{is_writable, IsSoundStatement}
 use Rattle.redn_graph.specs.declared.types.Instr.{Instr}
 use Rattle.redn_graph.specs.declared.types.Instr.TheVariants.{Set, Move, Add, Load, Store}
 use Rattle.redn_graph.specs.declared.types.End.{End}
@@ -39,12 +39,13 @@ module _ (n : Things) where
   IsTarget (cell.Hidden k) = k < n.hidden
   IsTarget _ = ⊥
 
+  -- a table that is stored into is writable
   abbrev pub FitsInstr : Instr → Type 0
   FitsInstr (Set to v) = IsTarget to
   FitsInstr (Move to from) = IsTarget to × IsCell from
   FitsInstr (Add to by) = IsTarget to × IsCell by
   FitsInstr (Load to table offset) = IsTarget to × (table < length n.tables) × IsCell offset
-  FitsInstr (Store table offset from) = (table < length n.tables) × IsCell offset × IsCell from
+  FitsInstr (Store table offset from) = (is_writable (slice_get n.tables table) ≡ true) × IsCell offset × IsCell from
 
   abbrev pub FitsEnd : End → Type 0
   FitsEnd (Jump to) = to < n.blocks

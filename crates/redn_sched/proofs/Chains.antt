@@ -4,7 +4,7 @@ use Rattle.std.specs.List.{range_with_len}
 use Rattle.std.proofs.lemmas.List.{get_or-map, length-map, map-append, replicate-append-replicate}
 use Rattle.std.proofs.lemmas.List.FromFn.{get_or-map-range_with_len, length-map-range_with_len, map-range_with_len_more}
 use Rattle.redn_words.specs.States.{State}
-use Rattle.redn_sched.specs.declared.fair.Turns.{Turns}
+use Rattle.redn_sched.specs.declared.turns.Turns.{Turns}
 use Rattle.redn_sched.specs.MadeSchedules.{queues_of}
 use Rattle.redn_sched.specs.MadeView.{chain_queues}
 

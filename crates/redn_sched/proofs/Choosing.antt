@@ -8,7 +8,7 @@ use Rattle.redn_words.specs.declared.types.Action.{Action}
 use Rattle.redn_words.specs.declared.types.Action.TheVariants.{Deliver}
 use Rattle.redn_words.specs.States.{State}
 use Rattle.redn_words.specs.Steps.{possible}
-use Rattle.redn_sched.specs.declared.fair.Turns.{Turns}
+use Rattle.redn_sched.specs.declared.turns.Turns.{Turns}
 use Rattle.redn_sched.specs.MadeSchedules.{Cursors, cyclically, queue_action, queue_acts, chain_acts, by_queue, fair_next}
 use Rattle.redn_sched.specs.MadeView.{chain_queues}
 use Rattle.redn_sched.proofs.Chains.{kept, as_many, kept_at}

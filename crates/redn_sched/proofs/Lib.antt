@@ -12,3 +12,8 @@ pub mod Rows
 pub mod Choosing
 pub mod NoAction
 pub mod Possible
+pub mod Begun
+pub mod FedPieces
+pub mod Drawing
+mod WorkedShuffles
+mod WorkedPieces

@@ -32,7 +32,7 @@ sides true b e = absurd (true≢false e)
 sides false b e = (refl, e)
 
 module _ {X : Type 0} (p : X → Bool) where
-  none_passes : (xs : List X) → ((x : X) → p x ≡ false) → list_any p xs ≡ false
+  pub none_passes : (xs : List X) → ((x : X) → p x ≡ false) → list_any p xs ≡ false
   none_passes [] h = refl
   none_passes (x ∷ xs) h = rw (h x) (none_passes xs h)
 
@@ -113,7 +113,7 @@ module _ (s : State) (domains : All (λ (u : Queue). u.row.domain < length s.cha
       let idle = none_kept (queue_acts s) (λ (q : ℕ). is_of u.row.domain (slice_get s.queues q)) (range_with_len 0 n) (sides (possible s (Deliver u.row.domain)) _ (idle_chain u.row.domain low)).1 q 0 (omega (arith, l, length-range_with_len 0 n)) mine in
       sym (acts_here s q u there) ∙ sym (ap (queue_acts s) at) ∙ idle
 
-  quiet_where : IsQuiet s
+  pub quiet_where : IsQuiet s
   quiet_where = then_quiet s delivers_none idle_queue
 
 -- and where no useful action is possible
@@ -125,7 +125,7 @@ module _ (s : State) (quiet : IsQuiet s) where
       by_place None e = refl
       by_place (Some u) e = quiet_idle s quiet q u e
 
-  quiet_chain : (c : ℕ) → chain_acts s c ≡ false
+  pub quiet_chain : (c : ℕ) → chain_acts s c ≡ false
   quiet_chain c = rw (no_delivery s quiet c) (none_passes (queue_acts s) (queues_of s c) quiet_queue)
 
 pub none_acts : (s : State) (k : Cursors) → All (λ (u : Queue). u.row.domain < length s.chains) s.queues → (option_map (λ (p : Action × Cursors). p.0) (fair_next s k) ≡ None) ↔ IsQuiet s

@@ -7,7 +7,7 @@ use Rattle.redn_words.specs.declared.types.Action.{Action}
 use Rattle.redn_words.specs.declared.types.Action.TheVariants.{Deliver, Fetch, Start, Land, Complete}
 use Rattle.redn_sched.specs.declared.text.Numbered.{Numbered}
 use Rattle.redn_sched.specs.Lines.{is_no_newline}
-use Rattle.redn_sched.specs.ScheduleText.{pair_text, action_text, Fits, last_line, lines_after, lines_of, Reads}
+use Rattle.redn_sched.specs.ScheduleText.{pair_text, action_text, Fits, last_line, lines_after, lines_of, Reads, recorded, numbered}
 use Rattle.redn_sched.proofs.Fields.{and_left, and_right, all_append, decimal_all}
 use Rattle.redn_sched.proofs.Cuts.{reads_action}
 use Rattle.redn_sched.proofs.OneReading.{one_reading}
@@ -62,21 +62,22 @@ abbrev pub AllFit : List Action → Type 0
 AllFit [] = Unit {0}
 AllFit (a ∷ actions) = Fits a × AllFit actions
 
-abbrev pub written : List Action → List ℕ
-written actions = flat_map (λ a. action_text a ++ codes "\n") actions
-
--- actions by the numbers of their lines, from n on
-abbrev pub numbered : ℕ → List Action → List Numbered
-numbered n [] = []
-numbered n (a ∷ actions) = record { line = n; action = a } ∷ numbered (n + 1) actions
-
 -- the text of actions is read back to them
-pub read_back : (n : ℕ) (actions : List Action) → AllFit actions → Reads n (lines_of (written actions)) (numbered n actions) None
+pub read_back : (n : ℕ) (actions : List Action) → AllFit actions → Reads n (lines_of (recorded actions)) (numbered n actions) None
 read_back n [] fit = tt
 read_back n (a ∷ actions) fit =
-    let cut : lines_of (written (a ∷ actions)) ≡ action_text a ∷ lines_of (written actions) = ap lines_of (append_assoc (action_text a) (codes "\n") (written actions)) ∙ after_line [] (action_text a) (written actions) (one_line a fit.0) in
-    subst (λ (ls : List (List ℕ)). Reads n ls (numbered n (a ∷ actions)) None) (sym cut) (reads_action n (action_text a) (lines_of (written actions)) (record { line = n; action = a }) (numbered (n + 1) actions) None (record { text = refl; fits = fit.0 }) refl (read_back (n + 1) actions fit.1))
+    let cut : lines_of (recorded (a ∷ actions)) ≡ action_text a ∷ lines_of (recorded actions) = ap lines_of (append_assoc (action_text a) (codes "\n") (recorded actions)) ∙ after_line [] (action_text a) (recorded actions) (one_line a fit.0) in
+    subst (λ (ls : List (List ℕ)). Reads n ls (numbered n (a ∷ actions)) None) (sym cut) (reads_action n (action_text a) (lines_of (recorded actions)) (record { line = n; action = a }) (numbered (n + 1) actions) None (record { text = refl; fits = fit.0 }) refl (read_back (n + 1) actions fit.1))
 
 -- and to no others
-pub read_back_alone : (n : ℕ) (actions : List Action) (xs : List Numbered) (bad : Option ℕ) → AllFit actions → Reads n (lines_of (written actions)) xs bad → (xs ≡ numbered n actions) × (bad ≡ None)
-read_back_alone n actions xs bad fit r = one_reading n (lines_of (written actions)) xs (numbered n actions) bad None r (read_back n actions fit)
+pub read_back_alone : (n : ℕ) (actions : List Action) (xs : List Numbered) (bad : Option ℕ) → AllFit actions → Reads n (lines_of (recorded actions)) xs bad → (xs ≡ numbered n actions) × (bad ≡ None)
+read_back_alone n actions xs bad fit r = one_reading n (lines_of (recorded actions)) xs (numbered n actions) bad None r (read_back n actions fit)
+
+-- with one more action
+pub all_fit_more : (actions : List Action) (a : Action) → AllFit actions → Fits a → AllFit (actions ++ a ∷ [])
+all_fit_more [] a all fits = (fits, tt)
+all_fit_more (x ∷ actions) a all fits = (all.0, all_fit_more actions a all.1 fits)
+
+pub recorded_more : (actions : List Action) (a : Action) → recorded (actions ++ a ∷ []) ≡ recorded actions ++ (action_text a ++ codes "\n")
+recorded_more [] a = append-nil (action_text a ++ codes "\n")
+recorded_more (x ∷ actions) a = ap (λ (l : List ℕ). (action_text x ++ codes "\n") ++ l) (recorded_more actions a) ∙ sym (append_assoc (action_text x ++ codes "\n") (recorded actions) (action_text a ++ codes "\n"))

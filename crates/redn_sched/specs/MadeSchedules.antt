@@ -51,8 +51,11 @@ abbrev pub first_cursors : State → Cursors
 first_cursors s = record { chain = 0; queues = replicate (length s.chains) 0 }
 
 -- A chain's active queue is the first one, cyclically from its cursor, that has a useful action which is possible. The cursor moves to it.
+abbrev pub queue_from : State → List ℕ → ℕ → Option ℕ
+queue_from s cursors c = find (queue_acts s) (cyclically (slice_index cursors c) (queues_of s c))
+
 abbrev pub active_queue : State → Cursors → ℕ → Option ℕ
-active_queue s k c = find (queue_acts s) (cyclically (slice_index k.queues c) (queues_of s c))
+active_queue s k c = queue_from s k.queues c
 
 abbrev pub with_action : Cursors → Option Action → Option (Action × Cursors)
 with_action k None = None

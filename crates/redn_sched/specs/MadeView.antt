@@ -5,7 +5,7 @@ use Rattle.redn_words.specs.declared.types.Action.{Action}
 use Rattle.redn_words.specs.States.{State}
 use Rattle.redn_words.specs.Laws.{row_at}
 use Rattle.redn_sched.specs.MadeSchedules.{Cursors, first_cursors, queues_of}
-use Rattle.redn_sched.specs.declared.fair.Turns.{Turns}
+use Rattle.redn_sched.specs.declared.turns.Turns.{Turns}
 use Rattle.redn_sched.specs.declared.fair.Fair.TheInside.{Inside}
 
 pub record Making : Type 0 where

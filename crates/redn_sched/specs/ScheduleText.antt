@@ -1,5 +1,6 @@
 -- The text of a schedule.
 use Rattle.std.specs.Prelude.{◌≡◌, ℕ, ◌+◌, ◌^◌, ◌<◌, ◌==◌, if◌then◌else◌, ◌⊎◌, List, [], ◌∷◌, ◌++◌, codes, decimal, Option, Some, None}
+use Rattle.std.specs.List.{flat_map}
 use Rattle.redn_words.specs.declared.types.Action.{Action}
 use Rattle.redn_words.specs.declared.types.Action.TheVariants.{Deliver, Fetch, Start, Land, Complete}
 use Rattle.redn_sched.specs.declared.text.Numbered.{Numbered}
@@ -59,3 +60,18 @@ Reads n [] [] (Some m) = ⊥
 Reads n [] (x ∷ xs) bad = ⊥
 Reads n (line ∷ rest) [] bad = (IsBad line × (bad ≡ Some n)) ⊎ (IsSkipped line × Reads (n + 1) rest [] bad)
 Reads n (line ∷ rest) (x ∷ xs) bad = (IsAction line x.action × (x.line ≡ n) × Reads (n + 1) rest xs bad) ⊎ (IsSkipped line × Reads (n + 1) rest (x ∷ xs) bad)
+
+-- the text of actions, each on a line of its own
+abbrev pub recorded : List Action → List ℕ
+recorded actions = flat_map (λ a. action_text a ++ codes "\n") actions
+
+-- actions by the numbers of their lines, from n on
+abbrev pub numbered : ℕ → List Action → List Numbered
+numbered n [] = []
+numbered n (a ∷ actions) = record { line = n; action = a } ∷ numbered (n + 1) actions
+
+-- the lines from number n on begin with these actions
+abbrev pub Begins : ℕ → List (List ℕ) → List Numbered → Type 0
+Begins n lines [] = Unit {0}
+Begins n [] (x ∷ xs) = ⊥
+Begins n (line ∷ rest) (x ∷ xs) = (IsAction line x.action × (x.line ≡ n) × Begins (n + 1) rest xs) ⊎ (IsSkipped line × Begins (n + 1) rest (x ∷ xs))

@@ -8,17 +8,11 @@ ghost use Rattle.redn_adapter.specs.Quiet.{IsQuiet};
 ghost use Rattle.redn_sched.specs.MadeView.{HasSameQueues, chain_queues, first_making, moved, followed_by};
 ghost use Rattle.redn_sched.specs.MadeSchedules.{is_of, queues_of, cyclically, queue_action, queue_acts, chain_acts, fair_next, fair_from};
 
+use crate::turns::{Turns, active_queue, chain_acts, first_turns, queue_action};
 use redn_adapter::Adapter;
 use redn_words::{Action, Memory};
-use std::alloc::{AllocError, Global};
+use std::alloc::Global;
 use std::marker::Model;
-
-/// A chain's queues, by rising number, and the number from which on the next one is looked for.
-#[derive(Drop)]
-pub struct Turns {
-    queues: Vec<u32>,
-    cursor: u32,
-}
 
 /// The fair schedule of an adapter: chains in turn, and of each chain one queue until that queue
 /// has nothing useful to do.
@@ -40,89 +34,6 @@ impl Model for Fair {
     ghost invariant = { IsFair };
 }
 
-/// Whether a queue is there and is this chain's.
-fn is_of(a: &Adapter, queue: u32, chain: u32) -> bool
-    ensures { result ≡ is_of chain (slice_get a.now.state.queues queue) }
-{
-    match a.row(queue) {
-        Some(row) => u32::from(row.domain) == chain,
-        None => false,
-    }
-}
-
-/// A chain's queues, by rising number.
-fn queues_of(alloc: Global, a: &Adapter, chain: u32) -> Result<Vec<u32>, AllocError>
-    ensures { IfOk result (λ v. v.items ≡ queues_of a.now.state chain) }
-{
-    (0..a.queue_count())
-        .filter(|queue| is_of(a, *queue, chain))
-        .collect(alloc)
-}
-
-/// The first of a queue's actions in turn that is possible: the oldest request completes, the oldest
-/// unlanded one lands, head starts, the least index that isn't held is fetched.
-#[tactic(auto, unfolding(redn_words::specs::Steps::possible))]
-fn queue_action(a: &Adapter, queue: u32) -> Option<Action>
-    ensures { result ≡ queue_action a.now.state queue }
-{
-    let u = a.queue(queue)?;
-    let completion = Action::Complete { queue };
-    if a.possible(completion) {
-        return Some(completion);
-    }
-    if let Some(index) = u.oldest_unlanded() {
-        let landing = Action::Land { queue, index };
-        if a.possible(landing) {
-            return Some(landing);
-        }
-    }
-    let start = Action::Start { queue };
-    if a.possible(start) {
-        return Some(start);
-    }
-    let index = u.least_unheld()?;
-    let fetch = Action::Fetch { queue, index };
-    if a.possible(fetch) { Some(fetch) } else { None }
-}
-
-/// Whether a queue has a useful action that is possible.
-fn queue_acts(a: &Adapter, queue: u32) -> bool
-    ensures { result ≡ queue_acts a.now.state queue }
-{
-    queue_action(a, queue).is_some()
-}
-
-/// The first of these queues from a number on that has a useful action.
-fn acting_from(a: &Adapter, queues: &[u32], cursor: u32) -> Option<u32>
-    ensures { result ≡ find (λ q. nat_le cursor q && queue_acts a.now.state q) queues.now }
-{
-    queues
-        .iter()
-        .copied()
-        .find(|queue| cursor <= *queue && queue_acts(a, *queue))
-}
-
-/// The first of these queues below a number that has a useful action.
-fn acting_below(a: &Adapter, queues: &[u32], cursor: u32) -> Option<u32>
-    ensures { result ≡ find (λ q. nat_lt q cursor && queue_acts a.now.state q) queues.now }
-{
-    queues
-        .iter()
-        .copied()
-        .find(|queue| *queue < cursor && queue_acts(a, *queue))
-}
-
-/// The first of a chain's queues, from its cursor on and then from the least on, that has a useful
-/// action.
-fn active_queue(a: &Adapter, turns: &Turns) -> Option<u32>
-    ensures { result ≡ find (queue_acts a.now.state) (cyclically turns.now.cursor turns.now.queues.items) }
-{
-    match acting_from(a, &turns.queues, turns.cursor) {
-        Some(queue) => Some(queue),
-        None => acting_below(a, &turns.queues, turns.cursor),
-    }
-}
-
 impl Fair {
     /// The schedule before its first action.
     pub fn new(alloc: Global, a: &Adapter) -> Result<Self, Memory>
@@ -130,22 +41,8 @@ impl Fair {
         // So it serves each adapter with as many chains and the same rows of queues.
         ensures serves { (t : State) → HasSameQueues a.now.state t → chain_queues t ≡ chain_queues a.now.state }
     {
-        let mut turns = Vec::new(alloc);
-        for chain in 0..a.chain_count() {
-            let queues = queues_of(alloc, a, chain)?;
-            turns.push(Turns { queues, cursor: 0 })?;
-        }
+        let turns = first_turns(alloc, a)?;
         Ok(Fair { chain: 0, turns })
-    }
-
-    /// Whether a chain may be taken.
-    fn chain_acts(&self, a: &Adapter, chain: u32) -> bool
-        requires queues { self.now.queues ≡ chain_queues a.now.state }
-        requires there { chain < length a.now.state.chains }
-        ensures { result ≡ chain_acts a.now.state chain }
-    {
-        a.possible(Action::Deliver { chain })
-            || active_queue(a, &self.turns[chain as usize]).is_some()
     }
 
     /// The first of some chains that may be taken.
@@ -156,7 +53,7 @@ impl Fair {
         ensures below { IfSome result (λ c. c < to) }
     {
         for chain in from..to {
-            if self.chain_acts(a, chain) {
+            if chain_acts(a, &self.turns, chain) {
                 return Some(chain);
             }
         }

@@ -1,9 +1,17 @@
 #![tactic(auto)]
 
+mod choices;
 mod fair;
 mod line;
+mod reader;
+mod shuffle;
 mod text;
+mod turns;
+mod written;
 
 pub use fair::Fair;
-pub use line::{Line, read_line, read_small, split_field};
-pub use text::{Numbered, Schedule, read_schedule};
+pub use line::{Line, read_line, read_number, read_small, split_field};
+pub use reader::{Fed, Got, ScheduleReader};
+pub use shuffle::Shuffle;
+pub use text::Numbered;
+pub use written::{action_line, schedule_text};

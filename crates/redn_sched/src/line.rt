@@ -1,7 +1,7 @@
 ghost use Rattle.std.specs.Prelude.{◌≡◌, ◌≢◌, ◌^◌, ◌<◌, ◌≤◌, ℕ, List, decimal, length, IfSome, IfNone};
 ghost use Rattle.std.specs.List.{prefix_len};
 ghost use Rattle.redn_sched.specs.ScheduleText.{pair_text, IsSkipped, IsAction, IsBad};
-ghost use Rattle.redn_sched.specs.Lines.{is_not, IsSplit, OnSkipped, IfAction, OnBad};
+ghost use Rattle.redn_sched.specs.Lines.{is_not, is_no_newline, IsSplit, OnSkipped, IfAction, OnBad};
 
 use itoa::Buffer;
 use redn_words::Action;
@@ -17,7 +17,7 @@ pub enum Line {
 }
 
 /// The number that is written so in decimal digits, without a leading zero or a sign.
-fn read_number(digits: &[u8]) -> Option<u64>
+pub fn read_number(digits: &[u8]) -> Option<u64>
     ensures value { IfSome result (λ n. digits.now ≡ decimal n) }
     ensures none { IfNone result ((n : ℕ) → n < 2 ^ 64 → digits.now ≢ decimal n) }
 {
@@ -65,6 +65,14 @@ fn field_len(text: &[u8], separator: u8) -> usize
     ensures within { result ≤ length text.now }
 {
     text.iter().take_while(|b| **b != separator).count()
+}
+
+/// How many bytes stand before the first newline.
+pub fn line_len(text: &[u8]) -> usize
+    ensures value { result ≡ prefix_len is_no_newline text.now }
+    ensures within { result ≤ length text.now }
+{
+    text.iter().take_while(|b| **b != b'\n').count()
 }
 
 /// The number of a queue, a space and an index.

@@ -10,14 +10,11 @@ use Rattle.redn_disasm.specs.Laws.{OneMeaning}
 use Rattle.redn_top.specs.declared.status.TextFault.TheVariants.{Line}
 use Rattle.redn_top.specs.declared.status.ImageFault.TheVariants.{Rule}
 use Rattle.redn_image.specs.Spelling.{refused}
-use Rattle.redn_sched.specs.declared.text.Numbered.{Numbered}
-use Rattle.redn_sched.specs.ScheduleText.{lines_of, Reads}
-use Rattle.redn_sched.proofs.OneReading.{one_reading}
 use Rattle.redn_top.specs.declared.status.Status.{Status}
-use Rattle.redn_top.specs.declared.status.Status.TheVariants.{Done, ReadFailed, Missing, WriteFailed, Long, Text, Program as ProgramRefused, Image, Memory, Step, Message, NotBuilt}
+use Rattle.redn_top.specs.declared.status.Status.TheVariants.{Done, Words, Schedule as BadSchedule, ReadFailed, Missing, WriteFailed, Long, Text, Program as ProgramRefused, Image, Memory, Step, Message, NotBuilt}
 use Rattle.redn_top.specs.Sources.{IsTextOf, Means}
-use Rattle.redn_top.specs.Reasons.{Nil, Or, Never, NoneHolds, no_tree, no_program, other_shape, wrong_line, source_reasons, program_reasons, image_reasons, line_reasons, listing_reasons, First}
-use Rattle.redn_top.specs.Refusals.{Refuses, SourceRefused, HasActions}
+use Rattle.redn_top.specs.Reasons.{Nil, Or, Never, NoneHolds, no_tree, no_program, other_shape, wrong_line, source_reasons, program_reasons, image_reasons, listing_reasons, First}
+use Rattle.redn_top.specs.Refusals.{Refuses, SourceRefused}
 use Rattle.redn_top.proofs.FirstReason.{first_here, first_behind, refuses_map, same_text}
 
 module _ (text : List ℕ) where
@@ -61,23 +58,12 @@ module _ (text : List ℕ) where
   source_refused (Step line) h = absurd h
   source_refused (Message fault) h = absurd h
   source_refused NotBuilt h = absurd h
+  source_refused Words h = absurd h
+  source_refused (BadSchedule number) h = absurd h
 
   pub program_refused : (s : Status) → SourceRefused text s → Refuses (program_reasons (Some text)) s
   program_refused s h =
       refuses_map (source_reasons (Some text)) (program_reasons (Some text)) (first_here (source_reasons (Some text)) (Or (other_shape (Some text)) Nil)) s (source_refused s h)
-
-  pub lines_none : (lines : List Numbered) → HasActions text lines → NoneHolds (line_reasons (Some text))
-  lines_none lines reads = (
-    (λ s h.
-        let same = same_text text h.0 h.1 in
-        let other = subst (λ (t : List ℕ). Reads 1 (lines_of t) h.2.0.0 (Some h.2.0.1)) (sym same) h.2.0.2 in
-        let bad = (one_reading 1 (lines_of text) lines h.2.0.0 None (Some h.2.0.1) reads other).1 in
-        absurd (cc)),
-    tt,
-  )
-
-  pub line_first : (lines : List Numbered) (bad : ℕ) → Reads 1 (lines_of text) lines (Some bad) → Refuses (line_reasons (Some text)) NotBuilt
-  line_first lines bad reads = inl (text, refl, ((lines, bad, reads), refl))
 
   -- a listing with an image has no wrong line and breaks no rule, and one that breaks a rule has no wrong line
   never_wrong_line : OneMeaning → (a : Outcome) → Assembles text a → ((n : ℕ) → a ≡ WrongLine n → ⊥) → Never (wrong_line (Some text))

@@ -14,27 +14,24 @@ use Rattle.redn_disasm.specs.Assembly.{Assembles, Made}
 use Rattle.redn_disasm.specs.Listing.{listing_text}
 use Rattle.redn_image.specs.Rules.{Image, numbers_of}
 use Rattle.redn_image.specs.Spelling.{Spells}
-use Rattle.redn_image.specs.Faithful.{Faithful, start_of}
-use Rattle.redn_top.specs.MessageWords.{messages}
-use Rattle.redn_top.specs.RunText.{IsCut, fair_text}
-use Rattle.redn_sched.specs.declared.text.Numbered.{Numbered}
-use Rattle.redn_top.specs.declared.limits.TheConstants.{FILE_LIMIT, IMAGE_LIMIT, LISTING_LIMIT, SCHEDULE_LIMIT}
+use Rattle.redn_image.specs.Faithful.{Faithful}
+use Rattle.redn_top.specs.declared.limits.TheConstants.{FILE_LIMIT, IMAGE_LIMIT, LISTING_LIMIT}
 use Rattle.redn_top.specs.declared.status.Status.{Status}
-use Rattle.redn_top.specs.declared.status.Status.TheVariants.{Done, ReadFailed, Missing, WriteFailed, Long, Text, Program as ProgramRefused, Image as ImageRefused, Memory, Step, Message, NotBuilt}
-use Rattle.redn_top.specs.Words.{Command, Check, Compile, Run, Go, Disasm, Assemble, MessageWord, by_schedule, by_fair}
+use Rattle.redn_top.specs.declared.status.Status.TheVariants.{Done, Words, Schedule as BadSchedule, ReadFailed, Missing, WriteFailed, Long, Text, Program as ProgramRefused, Image as ImageRefused, Memory, Step, Message, NotBuilt}
+use Rattle.redn_command.specs.Words.{Command, Check, Compile, Disasm, Assemble}
 use Rattle.redn_top.specs.Sources.{IsTextOf, Means}
-use Rattle.redn_top.specs.Reasons.{Input, IsInput, also, NoneHolds, First, read_reasons, two_reads, source_reasons, program_reasons, image_reasons, line_reasons, listing_reasons, reasons, message_reasons, Nil}
-use Rattle.redn_top.specs.Answers.{Written, Listed, Checked, Compiled, RunsFairly, RunsImage, Finishes, IsPart, Answered, Ends, with_written, status_of}
-use Rattle.redn_top.specs.Refusals.{IsHeld, HasActions, ReadsRefuse, ReadRefused, RunReadRefused, Refuses, SourceRefused, LinesRefused, PutRefused, WriteRefused, FairRan, ImageRan, Printed, RanBy}
+use Rattle.redn_top.specs.Reasons.{Input, IsInput, NoneHolds, First, read_reasons, source_reasons, program_reasons, image_reasons, listing_reasons, reasons}
+use Rattle.redn_top.specs.Answers.{Written, Listed, Checked, Answered, Ends, with_written, status_of}
+use Rattle.redn_top.specs.Refusals.{IsHeld, ReadsRefuse, ReadRefused, Refuses, SourceRefused, LinesRefused, PutRefused, WriteRefused}
 use Rattle.redn_top.proofs.FirstReason.{first_here, first_behind, none_both, refuses_map, reads_map, read_passed}
 use Rattle.redn_top.proofs.Contents.{means_none, source_refused}
 use Rattle.redn_top.proofs.ImageRuns.{told_nothing}
 
-written_nothing : (held : Option Files) → held ≡ option_map (with_written []) held
+pub written_nothing : (held : Option Files) → held ≡ option_map (with_written []) held
 written_nothing None = refl
 written_nothing (Some files) = refl
 
-written_one : (name bytes : List ℕ) (held : Option Files) → option_map (with_file name bytes) held ≡ option_map (with_written (record { name = name; bytes = bytes } ∷ [])) held
+pub written_one : (name bytes : List ℕ) (held : Option Files) → option_map (with_file name bytes) held ≡ option_map (with_written (record { name = name; bytes = bytes } ∷ [])) held
 written_one name bytes None = refl
 written_one name bytes (Some files) = refl
 
@@ -58,6 +55,8 @@ module _ (c : Command) (before now : StoreSeen) (out : SinkSeen) (told : now.tol
   reads_end (Step line) h = absurd h
   reads_end (Message fault) h = absurd h
   reads_end NotBuilt h = absurd h
+  reads_end Words h = absurd h
+  reads_end (BadSchedule number) h = absurd h
 
   pub contents_end : (s : Status) → Refuses (reasons c i) s → Ends c before now out out s
   contents_end Memory h = tt
@@ -65,6 +64,8 @@ module _ (c : Command) (before now : StoreSeen) (out : SinkSeen) (told : now.tol
   contents_end (ProgramRefused rule at seen) h = told_refusal (ProgramRefused rule at seen) h
   contents_end (ImageRefused fault) h = told_refusal (ImageRefused fault) h
   contents_end NotBuilt h = told_refusal NotBuilt h
+  contents_end Words h = absurd h
+  contents_end (BadSchedule number) h = absurd h
   contents_end ReadFailed h = absurd h
   contents_end Missing h = absurd h
   contents_end (Long seen limit) h = absurd h
@@ -73,32 +74,11 @@ module _ (c : Command) (before now : StoreSeen) (out : SinkSeen) (told : now.tol
   contents_end (Step line) h = absurd h
   contents_end (Message fault) h = absurd h
 
--- ---- a run
-
-module _ (c : Command) (before now : StoreSeen) (out out_now : SinkSeen) (i : Input) (is : IsInput before.told c i) (none : NoneHolds (reasons c i)) (written : List Written) (holds : now.told ≡ option_map (with_written written) before.told)
-    (Runs : Status → List ℕ → Type 0) (Part : List ℕ → Type 0) (finish : (s : Status) (printed : List ℕ) → Runs s printed → Finishes c i s printed written) (breaks : (printed : List ℕ) → Part printed → IsPart c i printed written) where
-  told_run : (s : Status) → Printed Runs out out_now s → Answered c before now out out_now s
-  told_run s h = record { input = i; printed = h.0; written = written; is_input = is; answers = inr (none, finish s h.0 h.1); holds = holds; prints = h.2 }
-
-  pub run_ends : (s : Status) → RanBy Runs Part out out_now s → Ends c before now out out_now s
-  run_ends Done h = told_run Done h
-  run_ends (Step line) h = told_run (Step line) h
-  run_ends (Message fault) h = told_run (Message fault) h
-  run_ends WriteFailed h = (i, is, none, inr (h.0, record { printed = h.1.0; written = written; is_part = breaks h.1.0 h.1.1; holds = holds; prints = h.1.2 }))
-  run_ends Memory h = tt
-  run_ends ReadFailed h = absurd h
-  run_ends Missing h = absurd h
-  run_ends (Long seen limit) h = absurd h
-  run_ends (Text fault) h = absurd h
-  run_ends (ProgramRefused rule at seen) h = absurd h
-  run_ends (ImageRefused fault) h = absurd h
-  run_ends NotBuilt h = absurd h
-
 -- ---- a write that failed
 
 module _ (c : Command) (before mid now : StoreSeen) (out : SinkSeen) (keeps : KeepsFiles before mid) (i : Input) (is : IsInput before.told c i) (none : NoneHolds (reasons c i)) where
   pub write_ends : (s : Status) → WriteRefused mid now s → Ends c before now out out s
-  write_ends WriteFailed h = (i, is, none, inl ((subst (λ (n : ℕ). Rose n now.counts.write_faults) keeps.write_faults h.0, sym keeps.reliable ∙ h.1), refl))
+  write_ends WriteFailed h = (i, is, none, inl (inl ((subst (λ (n : ℕ). Rose n now.counts.write_faults) keeps.write_faults h.0, sym keeps.reliable ∙ h.1), refl)))
   write_ends Memory h = tt
   write_ends Done h = absurd h
   write_ends ReadFailed h = absurd h
@@ -110,6 +90,8 @@ module _ (c : Command) (before mid now : StoreSeen) (out : SinkSeen) (keeps : Ke
   write_ends (Step line) h = absurd h
   write_ends (Message fault) h = absurd h
   write_ends NotBuilt h = absurd h
+  write_ends Words h = absurd h
+  write_ends (BadSchedule number) h = absurd h
 
 -- ---- each command
 
@@ -147,7 +129,7 @@ module _ (file : List ℕ) (before now : StoreSeen) (out : SinkSeen) (told : now
         }
         put_ends (Err WriteFailed) e h none =
             let checked : Checked (one_file text) Done printed [] = record { source = text; file = f; found = refl; read = read; accepted = accepted; done = refl; prints = is; writes = refl } in
-            (one_file text, held.found, none, inr (h.0, record { printed = take h.1.0 printed; written = []; is_part = (printed, h.1.0, checked, refl); holds = told ∙ written_nothing before.told; prints = h.1.1 }))
+            (one_file text, held.found, none, inl (inr (h.0, record { printed = take h.1.0 printed; written = []; is_part = (printed, h.1.0, checked, refl); holds = told ∙ written_nothing before.told; prints = h.1.1 })))
         put_ends (Err Memory) e h none = tt
         put_ends (Err Done) e h none = absurd h
         put_ends (Err ReadFailed) e h none = absurd h
@@ -159,6 +141,8 @@ module _ (file : List ℕ) (before now : StoreSeen) (out : SinkSeen) (told : now
         put_ends (Err (Step line)) e h none = absurd h
         put_ends (Err (Message fault)) e h none = absurd h
         put_ends (Err NotBuilt) e h none = absurd h
+        put_ends (Err Words) e h none = absurd h
+        put_ends (Err (BadSchedule number)) e h none = absurd h
 
 -- compile FILE IMAGE
 module _ (file name : List ℕ) (before mid : StoreSeen) (out : SinkSeen) (keeps : KeepsFiles before mid) where
@@ -194,125 +178,6 @@ module _ (file name : List ℕ) (before mid : StoreSeen) (out : SinkSeen) (keeps
           }
       compile_written (Err s) w h = write_ends (Compile file name) before mid now out keeps (one_file text) held.found compile_none s h
 
--- run IMAGE
-module _ (name : List ℕ) (plan : List ℕ) (words : List MessageWord) (before now : StoreSeen) (out : SinkSeen) (told : now.told ≡ before.told) where
-  pub run_unread : (s : Status) → RunReadRefused before.told name IMAGE_LIMIT plan before now s → Ends (Run name (by_schedule plan words)) before now out out s
-  run_unread s x =
-      let i : Input = record { first = x.file; schedule = x.lines } in
-      reads_end (Run name (by_schedule plan words)) before now out told i (x.found, x.schedule_found) s
-      (reads_map (two_reads x.file IMAGE_LIMIT x.lines) (reasons (Run name (by_schedule plan words)) i) (first_here (two_reads x.file IMAGE_LIMIT x.lines) (also (image_reasons x.file) (line_reasons x.lines))) before now s x.refuses)
-
-  module _ (bytes schedule : List ℕ) (held : IsHeld before.told name IMAGE_LIMIT bytes) (schedule_held : IsHeld before.told plan SCHEDULE_LIMIT schedule) where
-    run_input : Input
-    run_input = record { first = Some bytes; schedule = Some schedule }
-
-    run_passed : NoneHolds (two_reads (Some bytes) IMAGE_LIMIT (Some schedule))
-    run_passed = none_both (read_reasons (Some bytes) IMAGE_LIMIT) (read_reasons (Some schedule) SCHEDULE_LIMIT) (read_passed bytes IMAGE_LIMIT held.fits) (read_passed schedule SCHEDULE_LIMIT schedule_held.fits)
-
-    pub run_refused : (s : Status) → Refuses (also (image_reasons (Some bytes)) (line_reasons (Some schedule))) s → Ends (Run name (by_schedule plan words)) before now out out s
-    unfolding run_input
-    run_refused s h =
-        contents_end (Run name (by_schedule plan words)) before now out told run_input (held.found, schedule_held.found) s
-        (refuses_map (also (image_reasons (Some bytes)) (line_reasons (Some schedule))) (reasons (Run name (by_schedule plan words)) run_input) (λ t. first_behind (two_reads (Some bytes) IMAGE_LIMIT (Some schedule)) (also (image_reasons (Some bytes)) (line_reasons (Some schedule))) t run_passed) s h)
-
-    pub run_run : (image : Image) (lines : List Numbered) → Spells bytes image → HasActions schedule lines → NoneHolds (also (image_reasons (Some bytes)) (line_reasons (Some schedule))) → (out_now : SinkSeen) (s : Status) → ImageRan image words lines out out_now s → Ends (Run name (by_schedule plan words)) before now out out_now s
-    unfolding run_input
-    run_run image lines spells actions none out_now s ran =
-        run_ends (Run name (by_schedule plan words)) before now out out_now run_input (held.found, schedule_held.found) (none_both (two_reads (Some bytes) IMAGE_LIMIT (Some schedule)) (also (image_reasons (Some bytes)) (line_reasons (Some schedule))) run_passed none) [] (told ∙ written_nothing before.told) (RunsImage image words lines) (λ printed. NoneHolds (message_reasons image words) × IsCut (start_of image (messages (length image.receives) words)) lines printed)
-        (λ t printed runs. ((bytes, image, refl, spells, record { text = schedule; lines = lines; found = refl; actions = actions; runs = runs }), refl))
-        (λ printed cut. (image, (bytes, refl, spells), (schedule, lines, refl, actions, cut.0, cut.1), refl)) s ran
-
--- go FILE IMAGE
-module _ (file name : List ℕ) (plan : List ℕ) (words : List MessageWord) (before mid : StoreSeen) (out : SinkSeen) (keeps : KeepsFiles before mid) where
-  pub go_unread : (s : Status) → RunReadRefused before.told file FILE_LIMIT plan before mid s → Ends (Go file name (by_schedule plan words)) before mid out out s
-  go_unread s x =
-      let i : Input = record { first = x.file; schedule = x.lines } in
-      reads_end (Go file name (by_schedule plan words)) before mid out keeps.told i (x.found, x.schedule_found) s
-      (reads_map (two_reads x.file FILE_LIMIT x.lines) (reasons (Go file name (by_schedule plan words)) i) (first_here (two_reads x.file FILE_LIMIT x.lines) (also (program_reasons x.file) (line_reasons x.lines))) before mid s x.refuses)
-
-  module _ (text schedule : List ℕ) (held : IsHeld before.told file FILE_LIMIT text) (schedule_held : IsHeld before.told plan SCHEDULE_LIMIT schedule) where
-    go_input : Input
-    go_input = record { first = Some text; schedule = Some schedule }
-
-    go_passed : NoneHolds (two_reads (Some text) FILE_LIMIT (Some schedule))
-    go_passed = none_both (read_reasons (Some text) FILE_LIMIT) (read_reasons (Some schedule) SCHEDULE_LIMIT) (read_passed text FILE_LIMIT held.fits) (read_passed schedule SCHEDULE_LIMIT schedule_held.fits)
-
-    pub go_refused : (s : Status) → Refuses (also (program_reasons (Some text)) (line_reasons (Some schedule))) s → Ends (Go file name (by_schedule plan words)) before mid out out s
-    unfolding go_input
-    go_refused s h =
-        contents_end (Go file name (by_schedule plan words)) before mid out keeps.told go_input (held.found, schedule_held.found) s
-        (refuses_map (also (program_reasons (Some text)) (line_reasons (Some schedule))) (reasons (Go file name (by_schedule plan words)) go_input) (λ t. first_behind (two_reads (Some text) FILE_LIMIT (Some schedule)) (also (program_reasons (Some text)) (line_reasons (Some schedule))) t go_passed) s h)
-
-    module _ (p : Program) (lines : List Numbered) (means : Means text p) (actions : HasActions schedule lines) (accepted : NoneHolds (also (program_reasons (Some text)) (line_reasons (Some schedule)))) where
-      go_none : NoneHolds (reasons (Go file name (by_schedule plan words)) go_input)
-      unfolding go_input
-      go_none = none_both (two_reads (Some text) FILE_LIMIT (Some schedule)) (also (program_reasons (Some text)) (line_reasons (Some schedule))) go_passed accepted
-
-      pub go_unwritten : (now : StoreSeen) (s : Status) → WriteRefused mid now s → Ends (Go file name (by_schedule plan words)) before now out out s
-      unfolding go_input
-      go_unwritten now s h = write_ends (Go file name (by_schedule plan words)) before mid now out keeps go_input (held.found, schedule_held.found) go_none s h
-
-      pub go_run : (image : Image) → Faithful p image → (now : StoreSeen) → (bytes : List ℕ) × Spells bytes image × (now.told ≡ option_map (with_file name bytes) mid.told) → (out_now : SinkSeen) (s : Status) → ImageRan image words lines out out_now s → Ends (Go file name (by_schedule plan words)) before now out out_now s
-      unfolding go_input
-      go_run image faithful now w out_now s ran =
-          run_ends (Go file name (by_schedule plan words)) before now out out_now go_input (held.found, schedule_held.found) go_none (record { name = name; bytes = w.0 } ∷ []) (w.2 ∙ ap (option_map (with_file name w.0)) keeps.told ∙ written_one name w.0 before.told) (RunsImage image words lines) (λ printed. NoneHolds (message_reasons image words) × IsCut (start_of image (messages (length image.receives) words)) lines printed)
-          (λ t printed runs.
-          (image, record { source = text; program = p; bytes = w.0; found = refl; means = means; spells = w.1; faithful = faithful; writes = refl }, record { text = schedule; lines = lines; found = refl; actions = actions; runs = runs }))
-          (λ printed cut.
-          (image, record { source = text; program = p; bytes = w.0; found = refl; means = means; spells = w.1; faithful = faithful; writes = refl }, (schedule, lines, refl, actions, cut.0, cut.1))) s ran
-
--- run IMAGE by the fair rules
-module _ (name : List ℕ) (steps : ℕ) (words : List MessageWord) (before now : StoreSeen) (out : SinkSeen) (told : now.told ≡ before.told) where
-  pub fair_unread : (s : Status) → ReadRefused before.told name IMAGE_LIMIT before now s → Ends (Run name (by_fair steps words)) before now out out s
-  fair_unread s r =
-      let i : Input = record { first = r.file; schedule = None } in
-      reads_end (Run name (by_fair steps words)) before now out told i (r.found, tt) s (reads_map (read_reasons r.file IMAGE_LIMIT) (reasons (Run name (by_fair steps words)) i) (first_here (read_reasons r.file IMAGE_LIMIT) (also (image_reasons r.file) Nil)) before now s r.refuses)
-
-  module _ (bytes : List ℕ) (held : IsHeld before.told name IMAGE_LIMIT bytes) where
-    pub fair_refused : (s : Status) → Refuses (image_reasons (Some bytes)) s → Ends (Run name (by_fair steps words)) before now out out s
-    unfolding one_file
-    fair_refused s h =
-        contents_end (Run name (by_fair steps words)) before now out told (one_file bytes) (held.found, tt) s
-        (refuses_map (image_reasons (Some bytes)) (reasons (Run name (by_fair steps words)) (one_file bytes)) (λ t. first_behind (read_reasons (Some bytes) IMAGE_LIMIT) (image_reasons (Some bytes)) t (read_passed bytes IMAGE_LIMIT held.fits)) s h)
-
-    pub fair_run : (image : Image) → Spells bytes image → NoneHolds (image_reasons (Some bytes)) → (out_now : SinkSeen) (s : Status) → FairRan image words steps out out_now s → Ends (Run name (by_fair steps words)) before now out out_now s
-    unfolding one_file
-    fair_run image spells none out_now s ran =
-        run_ends (Run name (by_fair steps words)) before now out out_now (one_file bytes) (held.found, tt) (none_both (read_reasons (Some bytes) IMAGE_LIMIT) (image_reasons (Some bytes)) (read_passed bytes IMAGE_LIMIT held.fits) none) [] (told ∙ written_nothing before.told) (RunsFairly image words steps)
-        (λ printed. NoneHolds (message_reasons image words) × ((rest : List ℕ) × (fair_text (start_of image (messages (length image.receives) words)) steps ≡ printed ++ rest)))
-        (λ t printed runs. ((bytes, image, refl, spells, runs), refl)) (λ printed part. (image, (bytes, refl, spells), part, refl)) s ran
-
--- go FILE IMAGE by the fair rules
-module _ (file name : List ℕ) (steps : ℕ) (words : List MessageWord) (before mid : StoreSeen) (out : SinkSeen) (keeps : KeepsFiles before mid) where
-  pub go_fair_unread : (s : Status) → ReadRefused before.told file FILE_LIMIT before mid s → Ends (Go file name (by_fair steps words)) before mid out out s
-  go_fair_unread s r =
-      let i : Input = record { first = r.file; schedule = None } in
-      reads_end (Go file name (by_fair steps words)) before mid out keeps.told i (r.found, tt) s (reads_map (read_reasons r.file FILE_LIMIT) (reasons (Go file name (by_fair steps words)) i) (first_here (read_reasons r.file FILE_LIMIT) (also (program_reasons r.file) Nil)) before mid s r.refuses)
-
-  module _ (text : List ℕ) (held : IsHeld before.told file FILE_LIMIT text) where
-    pub go_fair_refused : (s : Status) → Refuses (program_reasons (Some text)) s → Ends (Go file name (by_fair steps words)) before mid out out s
-    unfolding one_file
-    go_fair_refused s h =
-        contents_end (Go file name (by_fair steps words)) before mid out keeps.told (one_file text) (held.found, tt) s
-        (refuses_map (program_reasons (Some text)) (reasons (Go file name (by_fair steps words)) (one_file text)) (λ t. first_behind (read_reasons (Some text) FILE_LIMIT) (program_reasons (Some text)) t (read_passed text FILE_LIMIT held.fits)) s h)
-
-    module _ (p : Program) (means : Means text p) (accepted : NoneHolds (program_reasons (Some text))) where
-      go_fair_none : NoneHolds (reasons (Go file name (by_fair steps words)) (one_file text))
-      unfolding one_file
-      go_fair_none = none_both (read_reasons (Some text) FILE_LIMIT) (program_reasons (Some text)) (read_passed text FILE_LIMIT held.fits) accepted
-
-      pub go_fair_unwritten : (now : StoreSeen) (s : Status) → WriteRefused mid now s → Ends (Go file name (by_fair steps words)) before now out out s
-      unfolding one_file
-      go_fair_unwritten now s h = write_ends (Go file name (by_fair steps words)) before mid now out keeps (one_file text) (held.found, tt) go_fair_none s h
-
-      pub go_fair_run : (image : Image) → Faithful p image → (now : StoreSeen) → (bytes : List ℕ) × Spells bytes image × (now.told ≡ option_map (with_file name bytes) mid.told) → (out_now : SinkSeen) (s : Status) → FairRan image words steps out out_now s → Ends (Go file name (by_fair steps words)) before now out out_now s
-      unfolding one_file
-      go_fair_run image faithful now w out_now s ran =
-          let compiled : Compiled (one_file text) name image (record { name = name; bytes = w.0 } ∷ []) = record { source = text; program = p; bytes = w.0; found = refl; means = means; spells = w.1; faithful = faithful; writes = refl } in
-          run_ends (Go file name (by_fair steps words)) before now out out_now (one_file text) (held.found, tt) go_fair_none (record { name = name; bytes = w.0 } ∷ []) (w.2 ∙ ap (option_map (with_file name w.0)) keeps.told ∙ written_one name w.0 before.told) (RunsFairly image words steps)
-          (λ printed. NoneHolds (message_reasons image words) × ((rest : List ℕ) × (fair_text (start_of image (messages (length image.receives) words)) steps ≡ printed ++ rest)))
-          (λ t printed runs. (image, compiled, runs)) (λ printed part. (image, compiled, part)) s ran
-
 -- disasm IMAGE
 module _ (name : List ℕ) (before now : StoreSeen) (out : SinkSeen) (told : now.told ≡ before.told) where
   pub disasm_unread : (s : Status) → ReadRefused before.told name IMAGE_LIMIT before now s → Ends (Disasm name) before now out out s
@@ -345,7 +210,7 @@ module _ (name : List ℕ) (before now : StoreSeen) (out : SinkSeen) (told : now
       }
       disasm_put (Err WriteFailed) e h =
           let listed : Listed (one_file bytes) (h.1.0 ++ h.1.1) = record { bytes = bytes; image = image; found = refl; spells = spells; prints = sym h.1.2 ∙ lists } in
-          (one_file bytes, held.found, disasm_none, inr (h.0, record { printed = h.1.0; written = []; is_part = (h.1.1, listed, refl); holds = told ∙ written_nothing before.told; prints = h.1.3 }))
+          (one_file bytes, held.found, disasm_none, inl (inr (h.0, record { printed = h.1.0; written = []; is_part = (h.1.1, listed, refl); holds = told ∙ written_nothing before.told; prints = h.1.3 })))
       disasm_put (Err Memory) e h = tt
       disasm_put (Err Done) e h = absurd h
       disasm_put (Err ReadFailed) e h = absurd h
@@ -357,6 +222,8 @@ module _ (name : List ℕ) (before now : StoreSeen) (out : SinkSeen) (told : now
       disasm_put (Err (Step line)) e h = absurd h
       disasm_put (Err (Message fault)) e h = absurd h
       disasm_put (Err NotBuilt) e h = absurd h
+      disasm_put (Err Words) e h = absurd h
+      disasm_put (Err (BadSchedule number)) e h = absurd h
 
 -- assemble LISTING IMAGE
 module _ (file name : List ℕ) (before mid : StoreSeen) (out : SinkSeen) (keeps : KeepsFiles before mid) where

@@ -7,7 +7,8 @@ use Rattle.redn_outside.specs.Seen.{StoreSeen, KeepsFiles, ReadFailed as FailedR
 use Rattle.redn_top.specs.declared.status.Status.{Status}
 use Rattle.redn_top.specs.declared.status.Status.TheVariants.{ReadFailed, Missing, Long, Memory}
 use Rattle.redn_top.specs.declared.limits.TheConstants.{SCHEDULE_LIMIT}
-use Rattle.redn_top.specs.Reasons.{Finds, read_reasons, two_reads}
+use Rattle.redn_top.specs.Reasons.{Finds, IsPlanInput, read_reasons, plan_reads, run_reads}
+use Rattle.redn_command.specs.Words.{Plan, Schedule, Fair, Shuffle}
 use Rattle.redn_top.specs.Refusals.{IsHeld, ReadRefused, RunReadRefused}
 use Rattle.redn_top.proofs.FirstReason.{first_here, first_behind, read_passed, reads_map, reads_later}
 
@@ -49,27 +50,37 @@ module _ (told : Option Files) (name : List ℕ) (limit : ℕ) (before now : Sto
       subst (λ (n : ℕ). ReadRefused told name limit before now (Long n limit)) (sym e)
       (record { file = Some l.bytes; found = l.found; refuses = (rose, inr ((λ s h. absurd (let e = h.0 in cc)), inl (l.bytes, refl, (l.longer, refl)))) })
 
--- the first of two reads is refused
-pub first_read_refused : (told : Option Files) (name : List ℕ) (limit : ℕ) (schedule : List ℕ) (before now : StoreSeen) (s : Status) → ReadRefused told name limit before now s → RunReadRefused told name limit schedule before now s
-first_read_refused told name limit schedule before now s r =
-    let lines = told_at told schedule in
+-- what a plan reads is found somehow
+plan_somehow : (told : Option Files) (plan : Plan) → (found : Option (List ℕ)) × IsPlanInput told plan found
+plan_somehow told (Schedule file) = (told_at told file, found_somehow told file)
+plan_somehow told (Fair steps) = (None, tt)
+plan_somehow told (Shuffle number steps) = (None, tt)
+
+-- the first read of a run is refused
+pub first_read_refused : (told : Option Files) (name : List ℕ) (limit : ℕ) (plan : Plan) (before now : StoreSeen) (s : Status) → ReadRefused told name limit before now s → RunReadRefused told name limit plan before now s
+first_read_refused told name limit plan before now s r =
+    let other = plan_somehow told plan in
     record {
       file = r.file;
-      lines = lines;
+      schedule = other.0;
       found = r.found;
-      schedule_found = found_somehow told schedule;
-      refuses = reads_map (read_reasons r.file limit) (two_reads r.file limit lines) (first_here (read_reasons r.file limit) (read_reasons lines SCHEDULE_LIMIT)) before now s r.refuses;
+      schedule_found = other.1;
+      refuses = reads_map (read_reasons r.file limit) (run_reads r.file limit plan other.0) (first_here (read_reasons r.file limit) (plan_reads plan other.0)) before now s r.refuses;
     }
 
 -- the second of them is
-pub second_read_refused : (name : List ℕ) (limit : ℕ) (schedule : List ℕ) (before mid now : StoreSeen) (text : List ℕ) → KeepsFiles before mid → IsHeld before.told name limit text → (s : Status) → ReadRefused mid.told schedule SCHEDULE_LIMIT mid now s → RunReadRefused before.told name limit schedule before now s
+pub second_read_refused : (name : List ℕ) (limit : ℕ) (schedule : List ℕ) (before mid now : StoreSeen) (text : List ℕ) → KeepsFiles before mid → IsHeld before.told name limit text → (s : Status) → ReadRefused mid.told schedule SCHEDULE_LIMIT mid now s → RunReadRefused before.told name limit (Schedule schedule) before now s
 second_read_refused name limit schedule before mid now text keeps held s r =
     record {
       file = Some text;
-      lines = r.file;
+      schedule = r.file;
       found = held.found;
       schedule_found = subst (λ (t : Option Files). Finds t schedule r.file) keeps.told r.found;
       refuses =
-          reads_map (read_reasons r.file SCHEDULE_LIMIT) (two_reads (Some text) limit r.file) (λ s h. first_behind (read_reasons (Some text) limit) (read_reasons r.file SCHEDULE_LIMIT) s (read_passed text limit held.fits) h) before now s
+          reads_map (read_reasons r.file SCHEDULE_LIMIT) (run_reads (Some text) limit (Schedule schedule) r.file) (λ s h. first_behind (read_reasons (Some text) limit) (read_reasons r.file SCHEDULE_LIMIT) s (read_passed text limit held.fits) h) before now s
           (reads_later (read_reasons r.file SCHEDULE_LIMIT) before mid now keeps s r.refuses);
     }
+
+-- what a plan read, as it was before
+pub plan_held_before : (before mid : StoreSeen) (file : List ℕ) (text : List ℕ) → KeepsFiles before mid → IsHeld mid.told file SCHEDULE_LIMIT text → IsHeld before.told file SCHEDULE_LIMIT text
+plan_held_before before mid file text keeps h = record { found = subst (λ (t : Option Files). Finds t file (Some text)) keeps.told h.found; fits = h.fits }

@@ -1,21 +1,27 @@
 -- How an image was run, part by part.
-use Rattle.std.proofs.Common.{◌≡◌, ℕ, List, [], ◌++◌, length, take, inl, inr, refl, sym, ap, ◌∙◌, append_assoc, append-nil}
+use Rattle.std.proofs.Common.{◌≡◌, ℕ, List, [], ◌++◌, length, take, inl, inr, refl, sym, ap, subst, ◌∙◌, append_assoc, append-nil}
 use Rattle.std.specs.Prelude.{Option, Some, None, Result, Ok, Err, OnOk, IfErr}
 use Rattle.std.specs.Option.{option_map}
-use Rattle.redn_words.specs.Runs.{AllPossible}
+use Rattle.redn_words.specs.declared.types.Action.{Action}
+use Rattle.redn_words.specs.States.{State}
+use Rattle.redn_sched.specs.MadeSchedules.{fair}
+use Rattle.redn_sched.specs.MadeView.{first_making}
+use Rattle.redn_sched.specs.Shuffles.{shuffled}
+use Rattle.redn_sched.specs.ShuffleView.{first_shuffled}
+use Rattle.redn_top.specs.declared.run.Maker.{Maker}
+use Rattle.redn_top.specs.declared.run.Maker.TheVariants as maker
 use Rattle.redn_outside.specs.Seen.{SinkSeen}
 use Rattle.redn_image.specs.Rules.{Image}
-use Rattle.redn_image.specs.Faithful.{start_of}
-use Rattle.redn_sched.specs.declared.text.Numbered.{Numbered}
 use Rattle.redn_top.specs.declared.status.MessageFault.{MessageFault}
 use Rattle.redn_top.specs.declared.status.Status.{Status}
-use Rattle.redn_top.specs.declared.status.Status.TheVariants.{Done, ReadFailed, Missing, WriteFailed, Long, Text, Program, Image as ImageRefused, Memory, Step, Message, NotBuilt}
-use Rattle.redn_top.specs.Words.{MessageWord}
+use Rattle.redn_top.specs.declared.status.Status.TheVariants.{Done, Words, Schedule as BadSchedule, ReadFailed, Missing, WriteFailed, Long, Text, Program, Image as ImageRefused, Memory, Step, Message, NotBuilt}
+use Rattle.redn_command.specs.Words.{MessageWord, Plan, Schedule, Fair, Shuffle}
 use Rattle.redn_top.specs.MessageWords.{messages, word_faults, length_faults}
-use Rattle.redn_top.specs.RunText.{actions_of, events_text, end_schedule, fair_text}
+use Rattle.redn_top.specs.RunText.{actions_of, events_text, end_schedule, made_text, planned, steps_asked}
 use Rattle.redn_top.specs.Reasons.{Nil, Or, Never, NoneHolds, First, first_fault, bad_word, message_reasons}
-use Rattle.redn_top.specs.Answers.{BadMessages, ToEnd, Stops, status_of, FairMessages, FairEnd}
-use Rattle.redn_top.specs.Refusals.{FaultsStay, FairRan, FairRefused, ImageRan, PutRefused, RunRefused, WordsRefused}
+use Rattle.redn_top.specs.Answers.{BadMessages, ToEnd, Stops, Meets, status_of, opened, MadeMessages, MadeEnd}
+use Rattle.redn_top.specs.Refusals.{FaultsStay, MadeWhole, MadeStopped, MadeRefused, ImageRan, PutRefused, RunRefused, WordsRefused}
+use Rattle.redn_top.specs.Makers.{RanAll, made_from, IsMakerOf}
 use Rattle.redn_top.proofs.RunLemmas.{failed_later}
 
 pub told_nothing : (told : Option (List ℕ)) → told ≡ option_map (λ text. text ++ []) told
@@ -25,9 +31,9 @@ told_nothing (Some text) = ap Some (sym (append-nil text))
 never_first : (faults : List MessageFault) → faults ≡ [] → Never (first_fault faults)
 never_first faults e s h = absurd (let f = sym e ∙ h.2 in cc)
 
-module _ (image : Image) (words : List MessageWord) (lines : List Numbered) (before : SinkSeen) where
+module _ (image : Image) (words : List MessageWord) (text : List ℕ) (before : SinkSeen) where
   -- the messages are refused before anything is put
-  pub words_refused : (s : Status) → WordsRefused (message_reasons image words) s → ImageRan image words lines before before s
+  pub words_refused : (s : Status) → WordsRefused (message_reasons image words) s → ImageRan image words text before before s
   words_refused Memory h = tt
   words_refused (Message f) h = ([], BadMessages h refl, told_nothing before.told)
   words_refused Done h = absurd h
@@ -40,6 +46,8 @@ module _ (image : Image) (words : List MessageWord) (lines : List Numbered) (bef
   words_refused (ImageRefused fault) h = absurd h
   words_refused (Step line) h = absurd h
   words_refused NotBuilt h = absurd h
+  words_refused Words h = absurd h
+  words_refused (BadSchedule number) h = absurd h
 
   -- a bad word is the first reason, and without one a wrong length
   pub word_first : (s : Status) → First (Or (bad_word image words) Nil) s → First (message_reasons image words) s
@@ -55,8 +63,9 @@ module _ (image : Image) (words : List MessageWord) (lines : List Numbered) (bef
 
   module _ (none : NoneHolds (message_reasons image words)) (now : SinkSeen) where
     -- the schedule stopped
-    pub run_stopped : (s : Status) → RunRefused (start_of image (messages (length image.receives) words)) lines before now s → ImageRan image words lines before now s
+    pub run_stopped : (s : Status) → RunRefused (opened image words) text before now s → ImageRan image words text before now s
     run_stopped (Step line) h = (h.0, Stops line none refl h.1, h.2)
+    run_stopped (BadSchedule line) h = (h.0, Meets line none refl h.1, h.2)
     run_stopped WriteFailed h = (h.0, (h.1.0, (none, inl h.1.1), h.1.2))
     run_stopped Memory h = absurd h
     run_stopped (Message f) h = absurd h
@@ -68,25 +77,27 @@ module _ (image : Image) (words : List MessageWord) (lines : List Numbered) (bef
     run_stopped (Program rule at seen) h = absurd h
     run_stopped (ImageRefused fault) h = absurd h
     run_stopped NotBuilt h = absurd h
+    run_stopped Words h = absurd h
 
     told_both : (xs ys : List ℕ) (text : Option (List ℕ)) → option_map (λ before. before ++ ys) (option_map (λ before. before ++ xs) text) ≡ option_map (λ before. before ++ (xs ++ ys)) text
     told_both xs ys None = refl
     told_both xs ys (Some text) = ap Some (append_assoc text xs ys)
 
     -- the schedule ran to its end, and the end line is put
-    module _ (mid : SinkSeen) (possible : AllPossible (start_of image (messages (length image.receives) words)) (actions_of lines))
-        (run : mid.told ≡ option_map (λ before. before ++ events_text (start_of image (messages (length image.receives) words)) (actions_of lines)) before.told) (stays : FaultsStay before mid) where
-      pub run_ended : (r : Result (Unit {0}) Status) → OnOk r (now.told ≡ option_map (λ before. before ++ end_schedule) mid.told) → IfErr r (PutRefused end_schedule mid now) → ImageRan image words lines before now (status_of r)
+    module _ (mid : SinkSeen) (all : RanAll (opened image words) text before.told mid.told) (stays : FaultsStay before mid) where
+      pub run_ended : (r : Result (Unit {0}) Status) → OnOk r (now.told ≡ option_map (λ before. before ++ end_schedule) mid.told) → IfErr r (PutRefused end_schedule mid now) → ImageRan image words text before now (status_of r)
       run_ended (Ok done) e h =
-          let events = events_text (start_of image (messages (length image.receives) words)) (actions_of lines) in
-          (events ++ end_schedule, ToEnd none refl (record { all_possible = possible; text = refl }), e ∙ ap (option_map (λ before. before ++ end_schedule)) run ∙ told_both events end_schedule before.told)
+          let events = events_text (opened image words) (actions_of all.lines) in
+          (events ++ end_schedule, ToEnd none refl (record { lines = all.lines; reads = all.reads; all_possible = all.all_possible; prints = refl }), e ∙ ap (option_map (λ before. before ++ end_schedule)) all.puts ∙ told_both events end_schedule before.told)
       run_ended (Err WriteFailed) e h =
-          let events = events_text (start_of image (messages (length image.receives) words)) (actions_of lines) in
-          (failed_later before mid now stays h.0, (events ++ take h.1.0 end_schedule, (none, inr (possible, (h.1.0, refl))), h.1.1 ∙ ap (option_map (λ before. before ++ take h.1.0 end_schedule)) run ∙ told_both events (take h.1.0 end_schedule) before.told))
+          let events = events_text (opened image words) (actions_of all.lines) in
+          (failed_later before mid now stays h.0, (events ++ take h.1.0 end_schedule, (none, inr (record { lines = all.lines; part = h.1.0; reads = all.reads; all_possible = all.all_possible; prints = refl })), h.1.1 ∙ ap (option_map (λ before. before ++ take h.1.0 end_schedule)) all.puts ∙ told_both events (take h.1.0 end_schedule) before.told))
       run_ended (Err Memory) e h = tt
       run_ended (Err (Message f)) e h = absurd h
       run_ended (Err (Step line)) e h = absurd h
+      run_ended (Err (BadSchedule number)) e h = absurd h
       run_ended (Err Done) e h = absurd h
+      run_ended (Err Words) e h = absurd h
       run_ended (Err ReadFailed) e h = absurd h
       run_ended (Err Missing) e h = absurd h
       run_ended (Err (Long seen limit)) e h = absurd h
@@ -95,35 +106,63 @@ module _ (image : Image) (words : List MessageWord) (lines : List Numbered) (bef
       run_ended (Err (ImageRefused fault)) e h = absurd h
       run_ended (Err NotBuilt) e h = absurd h
 
--- ---- by the fair rules
+-- ---- by a plan that makes the actions
 
-module _ (image : Image) (words : List MessageWord) (steps : ℕ) (before : SinkSeen) where
-  pub fair_words_refused : (s : Status) → WordsRefused (message_reasons image words) s → FairRan image words steps before before s
-  fair_words_refused Memory h = tt
-  fair_words_refused (Message f) h = ([], FairMessages h refl, told_nothing before.told)
-  fair_words_refused Done h = absurd h
-  fair_words_refused ReadFailed h = absurd h
-  fair_words_refused Missing h = absurd h
-  fair_words_refused WriteFailed h = absurd h
-  fair_words_refused (Long seen limit) h = absurd h
-  fair_words_refused (Text fault) h = absurd h
-  fair_words_refused (Program rule at seen) h = absurd h
-  fair_words_refused (ImageRefused fault) h = absurd h
-  fair_words_refused (Step line) h = absurd h
-  fair_words_refused NotBuilt h = absurd h
+module _ (image : Image) (words : List MessageWord) (plan : Plan) (before : SinkSeen) where
+  pub made_words_refused : (s : Status) → WordsRefused (message_reasons image words) s → MadeStopped image words plan before before s
+  made_words_refused Memory h = tt
+  made_words_refused (Message f) h = ([], MadeMessages h refl, told_nothing before.told)
+  made_words_refused Done h = absurd h
+  made_words_refused Words h = absurd h
+  made_words_refused ReadFailed h = absurd h
+  made_words_refused Missing h = absurd h
+  made_words_refused (Long seen limit) h = absurd h
+  made_words_refused (Text fault) h = absurd h
+  made_words_refused (Program rule at seen) h = absurd h
+  made_words_refused (ImageRefused fault) h = absurd h
+  made_words_refused (BadSchedule line) h = absurd h
+  made_words_refused (Step line) h = absurd h
+  made_words_refused NotBuilt h = absurd h
+  made_words_refused WriteFailed h = absurd h
 
   module _ (none : NoneHolds (message_reasons image words)) (now : SinkSeen) where
-    pub fair_ended : (r : Result (Unit {0}) Status) → OnOk r (now.told ≡ option_map (λ t. t ++ fair_text (start_of image (messages (length image.receives) words)) steps) before.told) → IfErr r (FairRefused (start_of image (messages (length image.receives) words)) steps before now) → FairRan image words steps before now (status_of r)
-    fair_ended (Ok done) e h = (fair_text (start_of image (messages (length image.receives) words)) steps, FairEnd none refl refl, e)
-    fair_ended (Err WriteFailed) e h = (h.0, (h.1.0, (none, (h.1.1, h.1.2)), h.1.3))
-    fair_ended (Err Memory) e h = tt
-    fair_ended (Err (Message f)) e h = absurd h
-    fair_ended (Err (Step line)) e h = absurd h
-    fair_ended (Err Done) e h = absurd h
-    fair_ended (Err ReadFailed) e h = absurd h
-    fair_ended (Err Missing) e h = absurd h
-    fair_ended (Err (Long seen limit)) e h = absurd h
-    fair_ended (Err (Text fault)) e h = absurd h
-    fair_ended (Err (Program rule at seen)) e h = absurd h
-    fair_ended (Err (ImageRefused fault)) e h = absurd h
-    fair_ended (Err NotBuilt) e h = absurd h
+    abbrev text_made : List ℕ
+    text_made = made_text (opened image words) (steps_asked plan) (planned plan (opened image words))
+
+    pub made_whole : now.told ≡ option_map (λ t. t ++ text_made) before.told → MadeWhole image words plan before now
+    made_whole e = (text_made, MadeEnd none refl refl, e)
+
+    pub made_stopped : (s : Status) → MadeRefused (opened image words) (steps_asked plan) (planned plan (opened image words)) before now s → MadeStopped image words plan before now s
+    made_stopped WriteFailed h = (h.0, (h.1.0, (none, (h.1.1, h.1.2)), h.1.3))
+    made_stopped Memory h = tt
+    made_stopped Done h = absurd h
+    made_stopped Words h = absurd h
+    made_stopped ReadFailed h = absurd h
+    made_stopped Missing h = absurd h
+    made_stopped (Long seen limit) h = absurd h
+    made_stopped (Text fault) h = absurd h
+    made_stopped (Program rule at seen) h = absurd h
+    made_stopped (ImageRefused fault) h = absurd h
+    made_stopped (BadSchedule line) h = absurd h
+    made_stopped (Step line) h = absurd h
+    made_stopped (Message fault) h = absurd h
+    made_stopped NotBuilt h = absurd h
+
+-- what makes the actions of a plan makes them all
+pub planned_is : (p : Plan) (s : State) (m : Maker) → IsMakerOf p s (Some m) → made_from (steps_asked p) s m ≡ planned p s
+unfolding fair shuffled
+planned_is (Schedule file) s m h = absurd (cc)
+planned_is (Fair n) s m h = let e : m ≡ maker.Fair (first_making s) = cc in subst (λ (x : Maker). made_from n s x ≡ fair n s) (sym e) refl
+planned_is (Shuffle z n) s m h = let e : m ≡ maker.Shuffle (first_shuffled s z) = cc in subst (λ (x : Maker). made_from n s x ≡ shuffled n z s) (sym e) refl
+
+module _ (s t : State) (n m : ℕ) (xs ys : List Action) (states : s ≡ t) (steps : n ≡ m) (lists : xs ≡ ys) where
+  pub refused_as : (before now : SinkSeen) (e : Status) → MadeRefused s n xs before now e → MadeRefused t m ys before now e
+  refused_as before now e h =
+      subst (λ (l : List Action). MadeRefused t m l before now e) lists
+      (subst (λ (k : ℕ). MadeRefused t k xs before now e) steps (subst (λ (x : State). MadeRefused x n xs before now e) states h))
+
+  pub text_as : (before now : Option (List ℕ)) → now ≡ option_map (λ text. text ++ made_text s n xs) before → now ≡ option_map (λ text. text ++ made_text t m ys) before
+  text_as before now e =
+      e
+      ∙ ap (λ (l : List ℕ). option_map (λ text. text ++ l) before)
+      (ap (λ (x : State). made_text x n xs) states ∙ ap (λ (k : ℕ). made_text t k xs) steps ∙ ap (λ (l : List Action). made_text t m l) lists)

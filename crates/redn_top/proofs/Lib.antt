@@ -1,5 +1,3 @@
-pub mod MessageTexts
-pub mod FirstItems
 pub mod TokenPlaces
 pub mod SourceFaults
 pub mod RunLemmas
@@ -11,8 +9,9 @@ pub mod MisfitFaults
 pub mod MessageWork
 pub mod ImageRuns
 pub mod Ending
-pub mod Plans
+pub mod Endings
 pub mod OneReason
 pub mod ListingLines
-pub mod FairRuns
+pub mod MadeRuns
+pub mod ScheduleRuns
 mod Worked

@@ -1,6 +1,6 @@
 -- The messages that words give, one word after the other.
 use Rattle.std.proofs.Common.{◌≡◌, ◌≢◌, ℕ, zero, suc, ◌+◌, ◌<◌, ◌==◌, nat_lt, Bool, true, false, cond, ◌||◌, List, [], ◌∷◌, ◌++◌, map, length, get_or, take, drop, set, refl, sym, ap, ◌∙◌, inl, arith, append_assoc, append-nil, replicate}
-use Rattle.std.specs.Prelude.{Option, Some, None, Ok, is_some}
+use Rattle.std.specs.Prelude.{Option, Some, None, Ok, is_some, string_bytes}
 use Rattle.std.specs.Option.{option_map}
 use Rattle.std.specs.List.{find, list_any, range_with_len}
 use Rattle.std.proofs.lemmas.Bool.Decides.{nat_tests}
@@ -9,10 +9,10 @@ use Rattle.std.proofs.lemmas.List.FromFn.{get_or-map-range_with_len, length-map-
 use Rattle.hex.specs.Hex.{decode_of}
 use Rattle.redn_top.specs.declared.status.MessageFault.{MessageFault}
 use Rattle.redn_top.specs.declared.status.MessageFault.TheVariants.{NoChain, Twice}
-use Rattle.redn_top.specs.declared.status.Status.TheVariants.{Done, ReadFailed, Missing, WriteFailed, Long, Text, Program, Image, Memory, Step, Message, NotBuilt}
+use Rattle.redn_top.specs.declared.status.Status.TheVariants.{Done, Words, Schedule as BadSchedule, ReadFailed, Missing, WriteFailed, Long, Text, Program, Image, Memory, Step, Message, NotBuilt}
 use Rattle.redn_top.specs.declared.status.Status.{Status}
-use Rattle.redn_top.specs.declared.words.MessageWord.{MessageWord as MessageView}
-use Rattle.redn_top.specs.Words.{MessageWord, message_view}
+use Rattle.redn_command.specs.declared.command.MessageWord.{MessageWord as MessageView}
+use Rattle.redn_command.specs.Words.{MessageWord, message_view}
 use Rattle.redn_top.proofs.RunLemmas.{around, mapped_more}
 use Rattle.redn_top.specs.MessageWords.{is_for, bytes_or, given_by, given, messages, bad_hex, word_fault, word_faults}
 use Rattle.redn_top.specs.Reasons.{Or, Nil, First, first_fault}
@@ -116,12 +116,12 @@ module _ (chains : ℕ) (before : List MessageWord) (w : MessageWord) where
 
 -- ---- of the words as they are kept, and of the messages so far
 
-module _ (chains : ℕ) (views : List MessageView) (k : ℕ) (d : MessageView) (inside : k < length views) where
-  pub refused_here : word_faults chains [] (map message_view (take k views)) ≡ [] → (f : MessageFault) → word_fault chains (map message_view (take k views)) (message_view (get_or views k d)) ≡ f ∷ [] →
+module _ (chains : ℕ) (views : List MessageView) (k : ℕ) (v : MessageView) (is : v ≡ get_or views k v) (inside : k < length views) where
+  pub refused_here : word_faults chains [] (map message_view (take k views)) ≡ [] → (f : MessageFault) → word_fault chains (map message_view (take k views)) (message_view v) ≡ f ∷ [] →
       First (Or (first_fault (word_faults chains [] (map message_view views))) Nil) (Message f)
   refused_here none f bad =
-      first_word_fault chains (map message_view views) (map message_view (take k views)) (message_view (get_or views k d)) (map message_view (drop (k + 1) views)) f
-      (ap (map message_view) (around views k d inside) ∙ map-append message_view (take k views) (get_or views k d ∷ drop (k + 1) views)) none bad
+      first_word_fault chains (map message_view views) (map message_view (take k views)) (message_view v) (map message_view (drop (k + 1) views)) f
+      (ap (map message_view) (around views k v inside ∙ ap (λ (x : MessageView). take k views ++ x ∷ drop (k + 1) views) (sym is)) ∙ map-append message_view (take k views) (v ∷ drop (k + 1) views)) none bad
 
 module _ {V : Type 0} (h : V → List ℕ) (items : List (Option V)) (chains : ℕ) (words : List MessageWord) (seen : map (option_map h) items ≡ messages chains words) where
   pub as_many : length items ≡ chains
@@ -144,11 +144,11 @@ pub none_seen : {V : Type 0} (h : V → List ℕ) (chains : ℕ) → map (option
 none_seen h chains = none_mapped h chains ∙ no_words chains 0
 
 -- digits that spell no bytes
-module _ (chains : ℕ) (views : List MessageView) (k : ℕ) (d : MessageView) (inside : k < length views) (none : word_faults chains [] (map message_view (take k views)) ≡ [])
-    (hex : word_fault chains (map message_view (take k views)) (message_view (get_or views k d)) ≡ bad_hex (get_or views k d).chain (decode_of (get_or views k d).digits.now)) where
-  pub digits_refused : (s : Status) → DigitsRefused (get_or views k d).chain (get_or views k d).digits.now s → WordsRefused (Or (first_fault (word_faults chains [] (map message_view views))) Nil) s
+module _ (chains : ℕ) (views : List MessageView) (k : ℕ) (v : MessageView) (is : v ≡ get_or views k v) (inside : k < length views) (none : word_faults chains [] (map message_view (take k views)) ≡ [])
+    (hex : word_fault chains (map message_view (take k views)) (message_view v) ≡ bad_hex v.chain (decode_of (string_bytes v.hex))) where
+  pub digits_refused : (s : Status) → DigitsRefused v.chain (string_bytes v.hex) s → WordsRefused (Or (first_fault (word_faults chains [] (map message_view views))) Nil) s
   digits_refused Memory h = tt
-  digits_refused (Message f) h = refused_here chains views k d inside none f (hex ∙ h)
+  digits_refused (Message f) h = refused_here chains views k v is inside none f (hex ∙ h)
   digits_refused Done h = absurd h
   digits_refused ReadFailed h = absurd h
   digits_refused Missing h = absurd h
@@ -159,25 +159,27 @@ module _ (chains : ℕ) (views : List MessageView) (k : ℕ) (d : MessageView) (
   digits_refused (Image fault) h = absurd h
   digits_refused (Step line) h = absurd h
   digits_refused NotBuilt h = absurd h
+  digits_refused Words h = absurd h
+  digits_refused (BadSchedule number) h = absurd h
 
 -- a word for no chain, and a second one for a chain
-module _ (chains : ℕ) (views : List MessageView) (k : ℕ) (d : MessageView) (inside : k < length views) (none : word_faults chains [] (map message_view (take k views)) ≡ []) where
-  pub no_chain_here : ((get_or views k d).chain < chains → ⊥) → First (Or (first_fault (word_faults chains [] (map message_view views))) Nil) (Message (NoChain (get_or views k d).chain))
-  no_chain_here not = refused_here chains views k d inside none (NoChain (get_or views k d).chain) (no_chain chains (map message_view (take k views)) (message_view (get_or views k d)) not)
+module _ (chains : ℕ) (views : List MessageView) (k : ℕ) (v : MessageView) (is : v ≡ get_or views k v) (inside : k < length views) (none : word_faults chains [] (map message_view (take k views)) ≡ []) where
+  pub no_chain_here : (v.chain < chains → ⊥) → First (Or (first_fault (word_faults chains [] (map message_view views))) Nil) (Message (NoChain v.chain))
+  no_chain_here not = refused_here chains views k v is inside none (NoChain v.chain) (no_chain chains (map message_view (take k views)) (message_view v) not)
 
-  pub twice_here : (get_or views k d).chain < chains → list_any (is_for (get_or views k d).chain) (map message_view (take k views)) ≡ true → First (Or (first_fault (word_faults chains [] (map message_view views))) Nil) (Message (Twice (get_or views k d).chain))
-  twice_here there any = refused_here chains views k d inside none (Twice (get_or views k d).chain) (twice chains (map message_view (take k views)) (message_view (get_or views k d)) there any)
+  pub twice_here : v.chain < chains → list_any (is_for v.chain) (map message_view (take k views)) ≡ true → First (Or (first_fault (word_faults chains [] (map message_view views))) Nil) (Message (Twice v.chain))
+  twice_here there any = refused_here chains views k v is inside none (Twice v.chain) (twice chains (map message_view (take k views)) (message_view v) there any)
 
-  module _ (there : (get_or views k d).chain < chains) (first : list_any (is_for (get_or views k d).chain) (map message_view (take k views)) ≡ false) where
-    pub digits_refused_here : (s : Status) → DigitsRefused (get_or views k d).chain (get_or views k d).digits.now s → WordsRefused (Or (first_fault (word_faults chains [] (map message_view views))) Nil) s
-    digits_refused_here = digits_refused chains views k d inside none (by_hex chains (map message_view (take k views)) (message_view (get_or views k d)) there first)
+  module _ (there : v.chain < chains) (first : list_any (is_for v.chain) (map message_view (take k views)) ≡ false) where
+    pub digits_refused_here : (s : Status) → DigitsRefused v.chain (string_bytes v.hex) s → WordsRefused (Or (first_fault (word_faults chains [] (map message_view views))) Nil) s
+    digits_refused_here = digits_refused chains views k v is inside none (by_hex chains (map message_view (take k views)) (message_view v) there first)
 
-    module _ {V : Type 0} (h : V → List ℕ) (items : List (Option V)) (v : V) (seen : map (option_map h) items ≡ messages chains (map message_view (take k views))) (decodes : decode_of (get_or views k d).digits.now ≡ Ok (h v)) where
-      pub one_word_more : (map (option_map h) (set items (get_or views k d).chain (Some v)) ≡ messages chains (map message_view (take (k + 1) views))) × (word_faults chains [] (map message_view (take (k + 1) views)) ≡ [])
+    module _ {V : Type 0} (h : V → List ℕ) (items : List (Option V)) (m : V) (seen : map (option_map h) items ≡ messages chains (map message_view (take k views))) (decodes : decode_of (string_bytes v.hex) ≡ Ok (h m)) where
+      pub one_word_more : (map (option_map h) (set items v.chain (Some m)) ≡ messages chains (map message_view (take (k + 1) views))) × (word_faults chains [] (map message_view (take (k + 1) views)) ≡ [])
       one_word_more =
           let before = map message_view (take k views) in
-          let w = message_view (get_or views k d) in
-          let more = mapped_more message_view views k d inside in (
-            map-set (option_map h) items w.chain (Some v) ∙ ap (λ l. set l w.chain (Some (h v))) seen ∙ messages_more chains before w (h v) there first decodes ∙ ap (messages chains) (sym more),
+          let w = message_view v in
+          let more = mapped_more message_view views k v inside ∙ ap (λ (x : MessageView). map message_view (take k views) ++ message_view x ∷ []) (sym is) in (
+            map-set (option_map h) items w.chain (Some m) ∙ ap (λ l. set l w.chain (Some (h m))) seen ∙ messages_more chains before w (h m) there first decodes ∙ ap (messages chains) (sym more),
             ap (word_faults chains []) more ∙ faults_more chains before w none (by_hex chains before w there first ∙ ap (bad_hex w.chain) decodes),
           )

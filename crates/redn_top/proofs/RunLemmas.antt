@@ -13,17 +13,22 @@ use Rattle.redn_words.specs.Steps.{possible, after, shown, step}
 use Rattle.redn_words.specs.Runs.{AllPossible, reached, all_shown, shown_then}
 use Rattle.redn_adapter.specs.Running.{Running, stepped}
 use Rattle.redn_trace.specs.EventText.{event_text}
-use Rattle.redn_sched.specs.declared.text.Numbered.{Numbered}
 use Rattle.redn_outside.specs.Seen.{SinkSeen, PutFailed}
-use Rattle.redn_top.specs.declared.status.Status.{Status}
-use Rattle.redn_top.specs.declared.status.Status.TheVariants.{Done, ReadFailed, Missing, WriteFailed, Long, Text, Program, Image, Memory, Step, Message, NotBuilt}
-use Rattle.redn_top.specs.Refusals.{FaultsStay, PutRefused, RunRefused}
+use Rattle.redn_top.specs.Refusals.{FaultsStay}
 use Rattle.redn_top.proofs.FirstReason.{rose_from}
-use Rattle.redn_top.specs.RunText.{actions_of, events_text}
+use Rattle.redn_top.specs.RunText.{events_text}
 
 pub AllPossible-push : (s : State) (acts : List Action) (a : Action) → AllPossible s acts → possible (reached s acts) a ≡ true → AllPossible s (acts ++ a ∷ [])
 AllPossible-push s [] a h p = (p, tt)
 AllPossible-push s (x ∷ acts) a h p = (h.0, AllPossible-push (after s x) acts a h.1 p)
+
+pub AllPossible-append : (s : State) (acts more : List Action) → AllPossible s acts → AllPossible (reached s acts) more → AllPossible s (acts ++ more)
+AllPossible-append s [] more h k = k
+AllPossible-append s (x ∷ acts) more h k = (h.0, AllPossible-append (after s x) acts more h.1 k)
+
+pub reached-append : (s : State) (acts more : List Action) → reached s (acts ++ more) ≡ reached (reached s acts) more
+reached-append s [] more = refl
+reached-append s (x ∷ acts) more = reached-append (after s x) acts more
 
 pub reached-push : (s : State) (acts : List Action) (a : Action) → reached s (acts ++ a ∷ []) ≡ after (reached s acts) a
 reached-push s [] a = refl
@@ -115,10 +120,6 @@ pub put_nothing : (o : Obs) (told : Option (List ℕ)) → o ≡ shows.Nothing �
 unfolding event_text
 put_nothing o told e = rw e (option_map-nothing told)
 
--- the actions of the lines so far, and of one more
-pub actions_more : (lines : List Numbered) (k : ℕ) (d : Numbered) → k < length lines → actions_of (take (k + 1) lines) ≡ actions_of (take k lines) ++ (get_or lines k d).action ∷ []
-actions_more lines k d l = ap actions_of (take_more lines k d l) ∙ map-append (λ (y : Numbered). y.action) (take k lines) (get_or lines k d ∷ [])
-
 -- what is seen of the items so far, and of one more
 pub mapped_more : {X Y : Type 0} (f : X → Y) (xs : List X) (k : ℕ) (d : X) → k < length xs → map f (take (k + 1) xs) ≡ map f (take k xs) ++ f (get_or xs k d) ∷ []
 mapped_more f xs k d l = ap (map f) (take_more xs k d l) ∙ map-append f (take k xs) (get_or xs k d ∷ [])
@@ -137,41 +138,3 @@ faults_here seen = record { faults = omega arith; reliable = refl }
 -- a put that failed after others
 pub failed_later : (before mid now : SinkSeen) → FaultsStay before mid → PutFailed mid now → PutFailed before now
 failed_later before mid now a b = (rose_from before.faults mid.faults now.faults a.faults b.0, sym a.reliable ∙ b.1)
-
--- the put of an event's line failed
-module _ (lines : List Numbered) (k : ℕ) (d : Numbered) (inside : k < length lines) (first r : Running) (before mid now : SinkSeen) (stays : FaultsStay before mid)
-    (ran : Ran first (actions_of (take k lines)) k r before.told mid.told) (o : Obs) (next : Running) (stepped : Stepped r (get_or lines k d).action o next) where
-  pub broken_off : (s : Status) → PutRefused (event_text o) mid now s → RunRefused first.state lines before now s
-  broken_off WriteFailed h =
-      let acts = actions_of (take k lines) in
-      let here = get_or lines k d in
-      let events = events_text first.state acts in
-      let shows_it : shown (reached first.state acts) here.action ≡ o = ap (λ (x : State). shown x here.action) (sym ran.state) ∙ stepped.shows_it in
-      let can : possible (reached first.state acts) here.action ≡ true = ap (λ (x : State). possible x here.action) (sym ran.state) ∙ stepped.can in
-      let part = take h.1.0 (event_text (shown (reached first.state acts) here.action)) in (
-        failed_later before mid now stays h.0,
-        (
-          events ++ part,
-          record {
-            before = take k lines;
-            here = here;
-            behind = drop (k + 1) lines;
-            part = h.1.0;
-            lines_are = around lines k d inside;
-            all_possible = subst (AllPossible first.state) (sym (map-append (λ (y : Numbered). y.action) (take k lines) (here ∷ []))) (AllPossible-push first.state acts here.action ran.possible_so_far can);
-            text = refl;
-          },
-          h.1.1 ∙ ap (λ (x : Obs). option_map (λ text. text ++ take h.1.0 (event_text x)) mid.told) (sym shows_it) ∙ ap (option_map (λ text. text ++ part)) ran.text ∙ option_map-twice events part before.told,
-        ),
-      )
-  broken_off Memory h = absurd h
-  broken_off Done h = absurd h
-  broken_off ReadFailed h = absurd h
-  broken_off Missing h = absurd h
-  broken_off (Long seen limit) h = absurd h
-  broken_off (Text fault) h = absurd h
-  broken_off (Program rule at seen) h = absurd h
-  broken_off (Image fault) h = absurd h
-  broken_off (Step line) h = absurd h
-  broken_off (Message fault) h = absurd h
-  broken_off NotBuilt h = absurd h

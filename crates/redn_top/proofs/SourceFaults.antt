@@ -14,7 +14,7 @@ use Rattle.redn_check.specs.Rules.{Accepts, faults}
 use Rattle.redn_check.specs.Numbering.{program_of}
 use Rattle.redn_top.specs.declared.status.TextFault.TheVariants.{Byte, Nesting}
 use Rattle.redn_top.specs.declared.status.Status.{Status}
-use Rattle.redn_top.specs.declared.status.Status.TheVariants.{Done, ReadFailed, Missing, WriteFailed, Long, Text, Program as ProgramRefused, Memory, Step, NotBuilt, Image as ImageRefused, Message}
+use Rattle.redn_top.specs.declared.status.Status.TheVariants.{Done, Words, Schedule as BadSchedule, ReadFailed, Missing, WriteFailed, Long, Text, Program as ProgramRefused, Memory, Step, NotBuilt, Image as ImageRefused, Message}
 use Rattle.redn_top.specs.Refusals.{SourceRefused}
 use Rattle.redn_top.specs.Refusals.{TreeRefused, RulesRefused}
 use Rattle.redn_top.specs.Sources.{IsTextOf, Means, NoToken, WideNumber, NoFile, TooDeep, TextRefused, RuleBroken, token_place}
@@ -67,6 +67,8 @@ module _ (text : List ℕ) where
     rules_refused Missing h = absurd h
     rules_refused WriteFailed h = absurd h
     rules_refused NotBuilt h = absurd h
+    rules_refused Words h = absurd h
+    rules_refused (BadSchedule number) h = absurd h
     rules_refused (ImageRefused fault) h = absurd h
     rules_refused (Message fault) h = absurd h
     rules_refused (Long seen limit) h = absurd h
@@ -81,6 +83,8 @@ tree_refused text ReadFailed h = absurd h
 tree_refused text Missing h = absurd h
 tree_refused text WriteFailed h = absurd h
 tree_refused text NotBuilt h = absurd h
+tree_refused text Words h = absurd h
+tree_refused text (BadSchedule number) h = absurd h
 tree_refused text (ImageRefused fault) h = absurd h
 tree_refused text (Message fault) h = absurd h
 tree_refused text (Long seen limit) h = absurd h

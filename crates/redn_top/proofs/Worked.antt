@@ -1,20 +1,20 @@
 -- Examples typed by hand: statuses, words, messages, places, reasons, and a run that stops.
-use Rattle.std.proofs.Common.{arith, ◌≡◌, ◌<◌, ℕ, List, [], ◌∷◌, length, ap, inl, inr, refl}
+use Rattle.std.proofs.Common.{arith, ◌≡◌, ◌<◌, ℕ, List, [], ◌∷◌, length, ap, inl, inr, refl, lit<}
 use Rattle.std.specs.Prelude.{codes, Option, Some, None}
 use Rattle.std.specs.Fmt.{digits}
 use Rattle.std.specs.FinMap as finite
 use Rattle.std.specs.FinMap.{gets}
-use Rattle.std.proofs.lemmas.List.Elements.{All-cons, All-nil}
 use Rattle.hex.specs.Hex.{decode_pairs}
 use Rattle.redn_outside.specs.Files.{Files, with_file}
 use Rattle.redn_words.specs.declared.types.Action.{Action}
-use Rattle.redn_words.specs.declared.types.Action.TheVariants.{Deliver, Start}
+use Rattle.redn_words.specs.declared.types.Action.TheVariants.{Deliver}
 use Rattle.redn_words.specs.Words.{spelled}
 use Rattle.redn_words.specs.Requests.{encoded}
 use Rattle.redn_words.specs.States.{State, start}
 use Rattle.redn_words.specs.Steps.{possible, after, shown}
 use Rattle.redn_trace.specs.EventText.{event_text}
 use Rattle.redn_sched.specs.declared.text.Numbered.{Numbered}
+use Rattle.redn_sched.specs.ScheduleText.{action_text, lines_of, Reads, Begins}
 use Rattle.redn_compile.specs.FirstImage.{first_image}
 use Rattle.redn_image.specs.Faithful.{start_of}
 use Rattle.redn_syntax.specs.declared.token.Token.{Token}
@@ -22,24 +22,24 @@ use Rattle.redn_syntax.specs.declared.token.TokenKind.TheVariants.{Name}
 use Rattle.redn_top.specs.declared.status.TextFault.TheVariants.{Byte, Nesting}
 use Rattle.redn_top.specs.declared.status.ImageFault.TheVariants.{Magic, Version, Rule}
 use Rattle.redn_top.specs.declared.status.MessageFault.TheVariants.{NoChain, Twice, BadHex, Length}
-use Rattle.redn_top.specs.declared.status.Status.TheVariants.{Step, Missing, Long, Text, Program as ProgramRefused, Image, Message}
+use Rattle.redn_top.specs.declared.status.Status.TheVariants.{Words, Schedule as BadSchedule, Step, Missing, Long, Text, Program as ProgramRefused, Image, Message}
 use Rattle.redn_top.specs.StatusText.{code_of, status_text}
-use Rattle.redn_top.specs.Words.{Command, Check, Compile, Run, Go, MessageWord, HasSmallChain, IsCommand, by_schedule, by_fair}
+use Rattle.redn_command.specs.Words.{Command, Run, Schedule, MessageWord}
 use Rattle.redn_top.specs.MessageWords.{messages, word_faults, length_faults}
 use Rattle.redn_top.specs.Reasons.{Input, IsInput, First, reasons}
 use Rattle.redn_top.specs.Sources.{token_place}
-use Rattle.redn_top.specs.RunText.{IsCut, StopsAt, RunsToEnd, fair_end}
+use Rattle.redn_top.specs.RunText.{IsCut, StopsAt, RunsToEnd, made_end}
 
-codes_of : (code_of (Step 7) ≡ 11) × (code_of Missing ≡ 16) × (code_of (Long 5 4) ≡ 5) × (code_of (Text (Byte 2)) ≡ 6) × (code_of (ProgramRefused 7 10 0) ≡ 7) × (code_of (Image Magic) ≡ 8) × (code_of (Message (Twice 0)) ≡ 12)
-codes_of = (refl, refl, refl, refl, refl, refl, refl)
+codes_of : (code_of (Step 7) ≡ 11) × (code_of Missing ≡ 16) × (code_of (Long 5 4) ≡ 5) × (code_of (Text (Byte 2)) ≡ 6) × (code_of (ProgramRefused 7 10 0) ≡ 7) × (code_of (Image Magic) ≡ 8) × (code_of (Message (Twice 0)) ≡ 12) × (code_of Words ≡ 2) × (code_of (BadSchedule 3) ≡ 10)
+codes_of = (refl, refl, refl, refl, refl, refl, refl, refl, refl)
 
 text_lines : (status_text (Text (Byte 0)) ≡ codes "redn: text refused: byte 0\n") × (status_text (Text (Nesting 723)) ≡ codes "redn: text refused: nesting at byte 723\n")
 unfolding digits
 text_lines = (refl, refl)
 
-other_lines : (status_text (Step 120) ≡ codes "redn: step not possible: line 120\n") × (status_text (Long 1048577 1048576) ≡ codes "redn: file too long: limit 1048576\n") × (status_text (ProgramRefused 14 65 4097) ≡ codes "redn: program refused: rule 14 at byte 65\n")
+other_lines : (status_text (Step 120) ≡ codes "redn: step not possible: line 120\n") × (status_text (Long 1048577 1048576) ≡ codes "redn: file too long: limit 1048576\n") × (status_text (ProgramRefused 14 65 4097) ≡ codes "redn: program refused: rule 14 at byte 65\n") × (status_text (BadSchedule 120) ≡ codes "redn: schedule refused: line 120\n")
 unfolding digits
-other_lines = (refl, refl, refl)
+other_lines = (refl, refl, refl, refl)
 
 image_lines : (status_text (Image (Version 3)) ≡ codes "redn: image refused: version 3\n") × (status_text (Image (Rule 6 1)) ≡ codes "redn: image refused: rule 6 at 1\n")
 unfolding digits
@@ -49,32 +49,10 @@ message_lines : (status_text (Message (NoChain 1)) ≡ codes "redn: message refu
 unfolding digits
 message_lines = (refl, refl, refl)
 
--- ---- words
+-- ---- messages of two chains
 
 word : ℕ → List ℕ → MessageWord
 word chain hex = record { chain = chain; digits = hex }
-
-go : Command
-go = Go (codes "e.redn") (codes "e.img") (by_schedule (codes "s") (word 0 (codes "2A") ∷ word 12 [] ∷ []))
-
-its_words : IsCommand (codes "go" ∷ codes "e.redn" ∷ codes "e.img" ∷ codes "--schedule" ∷ codes "s" ∷ codes "0=2A" ∷ codes "12=" ∷ []) go
-unfolding go word digits
-its_words = record {
-  are = refl;
-  names = ((λ e. omega arith), (λ e. omega arith), ((λ e. omega arith), All-cons HasSmallChain (word 0 (codes "2A")) (word 12 [] ∷ []) (omega arith) (All-cons HasSmallChain (word 12 []) [] (omega arith) (All-nil HasSmallChain))));
-}
-
-fair_words : IsCommand (codes "run" ∷ codes "e.img" ∷ codes "--fair" ∷ codes "100" ∷ codes "0=" ∷ []) (Run (codes "e.img") (by_fair 100 (word 0 [] ∷ [])))
-unfolding word digits
-fair_words = record { are = refl; names = ((λ e. omega arith), (omega arith, All-cons HasSmallChain (word 0 []) [] (omega arith) (All-nil HasSmallChain))) }
-
-compile_words : IsCommand (codes "compile" ∷ codes "e.redn" ∷ codes "e.img" ∷ []) (Compile (codes "e.redn") (codes "e.img"))
-compile_words = record { are = refl; names = ((λ e. omega arith), λ e. omega arith) }
-
-no_option : ¬ IsCommand (codes "check" ∷ codes "-e" ∷ []) (Check (codes "-e"))
-no_option w = w.names refl
-
--- ---- messages of two chains
 
 second_alone : messages 2 (word 1 (codes "002a") ∷ []) ≡ None ∷ Some (0 ∷ 42 ∷ []) ∷ []
 unfolding word decode_pairs
@@ -101,7 +79,7 @@ abbrev held_files : Files
 held_files = with_file (codes "f") (1 ∷ 2 ∷ 3 ∷ []) finite.empty
 
 run : Command
-run = Run (codes "f") (by_schedule (codes "s") [])
+run = Run (codes "f") (record { plan = Schedule (codes "s"); keep = None; messages = [] })
 
 it_is_found : IsInput (Some held_files) run found
 unfolding run found
@@ -135,19 +113,33 @@ at : ℕ → Action → Numbered
 at n a = record { line = n; action = a }
 
 -- a message comes only once
-the_message_again : StopsAt first (at 1 (Deliver 0) ∷ at 4 (Deliver 0) ∷ at 5 (Start 0) ∷ []) 4 []
-unfolding first at first_image spelled encoded start possible after shown event_text
-the_message_again = record { before = at 1 (Deliver 0) ∷ []; here = at 4 (Deliver 0); behind = at 5 (Start 0) ∷ []; lines_are = refl; number = refl; possible_before = (refl, tt); not_possible = refl; text = refl }
+twice : List ℕ
+twice = codes "d 0\n\n#\nd 0\ns 01\n"
 
-a_message_alone : RunsToEnd first (at 3 (Deliver 0) ∷ []) (codes "end schedule\n")
-unfolding first at first_image spelled encoded start possible after shown event_text
-a_message_alone = record { all_possible = (refl, tt); text = refl }
+twice_begins : Begins 1 (lines_of twice) (at 1 (Deliver 0) ∷ at 4 (Deliver 0) ∷ [])
+unfolding twice at action_text digits
+twice_begins = inl (record { text = refl; fits = lit< tt }, refl, inr (tt, inr (refl, inl (record { text = refl; fits = lit< tt }, refl, tt))))
 
--- both ends of a run by the fair rules
-fair_ends : (fair_end 1 (Deliver 0 ∷ []) ≡ codes "end steps\n") × (fair_end 2 (Deliver 0 ∷ []) ≡ codes "end quiet\n")
-fair_ends = (refl, refl)
+the_message_again : StopsAt first twice 4 []
+unfolding first at first_image spelled encoded start possible after shown event_text
+the_message_again = record { before = at 1 (Deliver 0) ∷ []; here = at 4 (Deliver 0); begins = twice_begins; number = refl; possible_before = (refl, tt); not_possible = refl; prints = refl }
+
+alone : List ℕ
+alone = codes "\n\nd 0"
+
+alone_reads : Reads 1 (lines_of alone) (at 3 (Deliver 0) ∷ []) None
+unfolding alone at action_text digits
+alone_reads = inr (tt, inr (tt, inl (record { text = refl; fits = lit< tt }, refl, tt)))
+
+a_message_alone : RunsToEnd first alone (codes "end schedule\n")
+unfolding first at first_image spelled encoded start possible after shown event_text
+a_message_alone = record { lines = at 3 (Deliver 0) ∷ []; reads = alone_reads; all_possible = (refl, tt); prints = refl }
+
+-- both ends of a run whose steps are made
+made_ends : (made_end 1 (Deliver 0 ∷ []) ≡ codes "end steps\n") × (made_end 2 (Deliver 0 ∷ []) ≡ codes "end quiet\n")
+made_ends = (refl, refl)
 
 -- the first put failed behind five bytes of the end line
-half_an_end : IsCut first (at 3 (Deliver 0) ∷ []) (codes "end s")
+half_an_end : IsCut first alone (codes "end s")
 unfolding first at first_image spelled encoded start possible after shown event_text
-half_an_end = inr ((refl, tt), (5, refl))
+half_an_end = inr (record { lines = at 3 (Deliver 0) ∷ []; part = 5; reads = alone_reads; all_possible = (refl, tt); prints = refl })

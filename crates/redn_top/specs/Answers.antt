@@ -1,5 +1,5 @@
 -- What a command answers, prints and writes, by what it finds.
-use Rattle.std.specs.Prelude.{◌≡◌, ◌⊎◌, ℕ, List, [], ◌∷◌, ◌++◌, length, take, Some, None, Result, Ok, Err}
+use Rattle.std.specs.Prelude.{◌≡◌, ◌⊎◌, ℕ, List, [], ◌∷◌, ◌++◌, length, take, Option, Some, None, Result, Ok, Err}
 use Rattle.std.specs.Option.{option_map}
 use Rattle.redn_syntax.specs.declared.tree.File.{File}
 use Rattle.redn_syntax.specs.Canonical.{canonical_text}
@@ -13,20 +13,25 @@ use Rattle.redn_disasm.specs.Listing.{listing_text}
 use Rattle.redn_image.specs.Rules.{Image, numbers_of}
 use Rattle.redn_image.specs.Spelling.{Spells}
 use Rattle.redn_image.specs.Faithful.{Faithful, start_of}
-use Rattle.redn_sched.specs.declared.text.Numbered.{Numbered}
-use Rattle.redn_sched.specs.ScheduleText.{lines_of, Reads}
+use Rattle.redn_words.specs.States.{State}
+use Rattle.redn_sched.specs.ScheduleText.{recorded}
 use Rattle.redn_top.specs.declared.status.Status.{Status}
 use Rattle.redn_top.specs.declared.status.Status.TheVariants as status
-use Rattle.redn_top.specs.Words.{Command, Check, Compile, Run, Go, Disasm, Assemble, Plan, Schedule, Fair, MessageWord}
+use Rattle.redn_command.specs.Words.{Command, Check, Compile, Run, Go, Disasm, Assemble, Gen, Plan, Schedule, Fair, Shuffle, RunWords, MessageWord}
 use Rattle.redn_top.specs.MessageWords.{messages}
 use Rattle.redn_top.specs.Reasons.{Input, IsInput, NoneHolds, First, reasons, message_reasons}
 use Rattle.redn_top.specs.Sources.{IsTextOf, Means}
-use Rattle.redn_top.specs.RunText.{IsCut, fair_text, RunsToEnd, StopsAt}
+use Rattle.redn_top.specs.RunText.{IsCut, RunsToEnd, MeetsBad, StopsAt, planned, steps_asked, made_text}
 
 -- a file that is written: its name and its bytes
 pub record Written : Type 0 where
   pub name : List ℕ
   pub bytes : List ℕ
+
+-- a file that is written, if it has a name
+abbrev pub kept_under : Option (List ℕ) → List ℕ → List Written
+kept_under None bytes = []
+kept_under (Some name) bytes = record { name = name; bytes = bytes } ∷ []
 
 -- ---- what each command does where no reason holds
 
@@ -70,44 +75,58 @@ pub record Assembled (i : Input) (name : List ℕ) (written : List Written) : Ty
   pub spells : Spells bytes image
   pub writes : written ≡ record { name = name; bytes = bytes } ∷ []
 
--- an image is run with messages under these lines: the messages are refused, or all actions are made, or one isn't possible
-pub data RunsImage (image : Image) (words : List MessageWord) (lines : List Numbered) (s : Status) (printed : List ℕ) : Type 0 where
-  BadMessages : First (message_reasons image words) s → printed ≡ [] → RunsImage image words lines s printed
-  ToEnd : NoneHolds (message_reasons image words) → s ≡ status.Done → RunsToEnd (start_of image (messages (length image.receives) words)) lines printed → RunsImage image words lines s printed
-  Stops : (line : ℕ) → NoneHolds (message_reasons image words) → s ≡ status.Step line → StopsAt (start_of image (messages (length image.receives) words)) lines line printed → RunsImage image words lines s printed
+-- the state in which an image is opened with messages
+abbrev pub opened : Image → List MessageWord → State
+opened image words = start_of image (messages (length image.receives) words)
+
+-- an image is run with messages under the text of a schedule: the messages are refused, or all actions are made, or one isn't possible, or a line is bad
+pub data RunsImage (image : Image) (words : List MessageWord) (text : List ℕ) (s : Status) (printed : List ℕ) : Type 0 where
+  BadMessages : First (message_reasons image words) s → printed ≡ [] → RunsImage image words text s printed
+  ToEnd : NoneHolds (message_reasons image words) → s ≡ status.Done → RunsToEnd (opened image words) text printed → RunsImage image words text s printed
+  Stops : (line : ℕ) → NoneHolds (message_reasons image words) → s ≡ status.Step line → StopsAt (opened image words) text line printed → RunsImage image words text s printed
+  Meets : (line : ℕ) → NoneHolds (message_reasons image words) → s ≡ status.Schedule line → MeetsBad (opened image words) text line printed → RunsImage image words text s printed
 
 -- an image is run under the schedule that is found
-pub record RanSchedule (i : Input) (words : List MessageWord) (image : Image) (s : Status) (printed : List ℕ) : Type 0 where
+pub record RanSchedule (schedule : Option (List ℕ)) (words : List MessageWord) (image : Image) (s : Status) (printed : List ℕ) : Type 0 where
   pub text : List ℕ
-  pub lines : List Numbered
-  pub found : i.schedule ≡ Some text
-  pub actions : Reads 1 (lines_of text) lines None
-  pub runs : RunsImage image words lines s printed
+  pub found : schedule ≡ Some text
+  pub runs : RunsImage image words text s printed
 
--- an image is run with messages by the fair rules: the messages are refused, or all actions are made that the rules give
-pub data RunsFairly (image : Image) (words : List MessageWord) (steps : ℕ) (s : Status) (printed : List ℕ) : Type 0 where
-  FairMessages : First (message_reasons image words) s → printed ≡ [] → RunsFairly image words steps s printed
-  FairEnd : NoneHolds (message_reasons image words) → s ≡ status.Done → printed ≡ fair_text (start_of image (messages (length image.receives) words)) steps → RunsFairly image words steps s printed
+-- an image is run with messages by a plan that makes the actions: the messages are refused, or all of them are made
+pub data RunsMade (image : Image) (words : List MessageWord) (plan : Plan) (s : Status) (printed : List ℕ) : Type 0 where
+  MadeMessages : First (message_reasons image words) s → printed ≡ [] → RunsMade image words plan s printed
+  MadeEnd : NoneHolds (message_reasons image words) → s ≡ status.Done → printed ≡ made_text (opened image words) (steps_asked plan) (planned plan (opened image words)) → RunsMade image words plan s printed
 
 -- an image is run by its plan
-abbrev pub Ran : Input → Plan → List MessageWord → Image → Status → List ℕ → Type 0
-Ran i (Schedule file) words image s printed = RanSchedule i words image s printed
-Ran i (Fair steps) words image s printed = RunsFairly image words steps s printed
+abbrev pub Ran : Option (List ℕ) → Plan → List MessageWord → Image → Status → List ℕ → Type 0
+Ran schedule (Schedule file) words image s printed = RanSchedule schedule words image s printed
+Ran schedule (Fair steps) words image s printed = RunsMade image words (Fair steps) s printed
+Ran schedule (Shuffle number steps) words image s printed = RunsMade image words (Shuffle number steps) s printed
+
+-- a part of what is printed by a plan that makes the actions
+abbrev pub IsMadePart : Plan → List MessageWord → Image → List ℕ → Type 0
+IsMadePart plan words image printed =
+    NoneHolds (message_reasons image words) × ((rest : List ℕ) × (made_text (opened image words) (steps_asked plan) (planned plan (opened image words)) ≡ printed ++ rest))
 
 -- a part of what such a run prints
-abbrev pub IsRunPart : Input → Plan → List MessageWord → Image → List ℕ → Type 0
-IsRunPart i (Schedule file) words image printed =
-    (text : List ℕ) × (lines : List Numbered) × (i.schedule ≡ Some text) × Reads 1 (lines_of text) lines None × NoneHolds (message_reasons image words) × IsCut (start_of image (messages (length image.receives) words)) lines printed
-IsRunPart i (Fair steps) words image printed =
-    NoneHolds (message_reasons image words) × ((rest : List ℕ) × (fair_text (start_of image (messages (length image.receives) words)) steps ≡ printed ++ rest))
+abbrev pub IsRunPart : Option (List ℕ) → Plan → List MessageWord → Image → List ℕ → Type 0
+IsRunPart schedule (Schedule file) words image printed = (text : List ℕ) × (schedule ≡ Some text) × NoneHolds (message_reasons image words) × IsCut (opened image words) text printed
+IsRunPart schedule (Fair steps) words image printed = IsMadePart (Fair steps) words image printed
+IsRunPart schedule (Shuffle number steps) words image printed = IsMadePart (Shuffle number steps) words image printed
+
+-- after all steps the record of them is written, where it is asked for
+abbrev pub kept : RunWords → Image → Status → List Written
+kept r image status.Done = kept_under r.keep (recorded (planned r.plan (opened image r.messages)))
+kept r image _ = []
 
 abbrev pub Finishes : Command → Input → Status → List ℕ → List Written → Type 0
 Finishes (Check file) i s printed written = Checked i s printed written
 Finishes (Compile file name) i s printed written = ((image : Image) × Compiled i name image written) × (s ≡ status.Done) × (printed ≡ [])
-Finishes (Run name r) i s printed written = ((bytes : List ℕ) × (image : Image) × (i.first ≡ Some bytes) × Spells bytes image × Ran i r.plan r.messages image s printed) × (written ≡ [])
+Finishes (Run name r) i s printed written = (bytes : List ℕ) × (image : Image) × (i.first ≡ Some bytes) × Spells bytes image × Ran i.schedule r.plan r.messages image s printed × (written ≡ kept r image s)
 Finishes (Disasm name) i s printed written = Listed i printed × (s ≡ status.Done) × (written ≡ [])
 Finishes (Assemble listing name) i s printed written = Assembled i name written × (s ≡ status.Done) × (printed ≡ [])
-Finishes (Go file name r) i s printed written = (image : Image) × Compiled i name image written × Ran i r.plan r.messages image s printed
+Finishes (Go file name r) i s printed written = (image : Image) × (first : List Written) × Compiled i name image first × Ran i.schedule r.plan r.messages image s printed × (written ≡ first ++ kept r image s)
+Finishes (Gen number name) i s printed written = ⊥
 
 -- the first reason that holds is told and nothing else is done, or no reason holds and the command does its work
 abbrev pub Answers : Command → Input → Status → List ℕ → List Written → Type 0
@@ -139,10 +158,11 @@ pub record Stayed (before now : StoreSeen) (out out_now : SinkSeen) : Type 0 whe
 abbrev pub IsPart : Command → Input → List ℕ → List Written → Type 0
 IsPart (Check file) i printed written = (whole : List ℕ) × (part : ℕ) × Checked i status.Done whole written × (printed ≡ take part whole)
 IsPart (Compile file name) i printed written = ⊥
-IsPart (Run name r) i printed written = (image : Image) × ((bytes : List ℕ) × (i.first ≡ Some bytes) × Spells bytes image) × IsRunPart i r.plan r.messages image printed × (written ≡ [])
+IsPart (Run name r) i printed written = (image : Image) × ((bytes : List ℕ) × (i.first ≡ Some bytes) × Spells bytes image) × IsRunPart i.schedule r.plan r.messages image printed × (written ≡ [])
 IsPart (Disasm name) i printed written = (rest : List ℕ) × Listed i (printed ++ rest) × (written ≡ [])
 IsPart (Assemble listing name) i printed written = ⊥
-IsPart (Go file name r) i printed written = (image : Image) × Compiled i name image written × IsRunPart i r.plan r.messages image printed
+IsPart (Go file name r) i printed written = (image : Image) × Compiled i name image written × IsRunPart i.schedule r.plan r.messages image printed
+IsPart (Gen number name) i printed written = ⊥
 
 -- a put failed: as far as it is told, nothing was printed behind it
 pub record BrokeOff (c : Command) (i : Input) (before now : StoreSeen) (out out_now : SinkSeen) : Type 0 where
@@ -152,23 +172,40 @@ pub record BrokeOff (c : Command) (i : Input) (before now : StoreSeen) (out out_
   pub holds : now.told ≡ option_map (with_written written) before.told
   pub prints : out_now.told ≡ option_map (λ text. text ++ printed) out.told
 
+-- all else was done, and the last write failed: what its name holds is open
+pub record LostLast (c : Command) (i : Input) (before now : StoreSeen) (out out_now : SinkSeen) : Type 0 where
+  pub printed : List ℕ
+  pub written : List Written
+  pub last : Written
+  pub finishes : Finishes c i status.Done printed (written ++ last ∷ [])
+  pub others : OthersStay last.name (option_map (with_written written) before.told) now.told
+  pub prints : out_now.told ≡ option_map (λ text. text ++ printed) out.told
+
 -- with its status, a command did this; of want of memory nothing is said here
 abbrev pub Ends : Command → StoreSeen → StoreSeen → SinkSeen → SinkSeen → Status → Type 0
 Ends c before now out out_now status.ReadFailed = ReadFailed before now × Stayed before now out out_now
-Ends c before now out out_now status.WriteFailed = (i : Input) × IsInput before.told c i × NoneHolds (reasons c i) × ((WriteFailed before now × (out_now.told ≡ out.told)) ⊎ (PutFailed out out_now × BrokeOff c i before now out out_now))
+Ends c before now out out_now status.WriteFailed = (i : Input) × IsInput before.told c i × NoneHolds (reasons c i) × (((WriteFailed before now × (out_now.told ≡ out.told)) ⊎ (PutFailed out out_now × BrokeOff c i before now out out_now)) ⊎ (WriteFailed before now × LostLast c i before now out out_now))
 Ends c before now out out_now status.Memory = Unit {0}
 Ends c before now out out_now status.Missing = MissingRose before now × Answered c before now out out_now status.Missing
 Ends c before now out out_now (status.Long seen limit) = LongRose before now × Answered c before now out out_now (status.Long seen limit)
 Ends c before now out out_now s = Answered c before now out out_now s
 
--- whatever its status: no file changes but the one that the command writes
+-- of each name but these the same is told
+abbrev pub OthersStayThan : Option (List ℕ) → Option (List ℕ) → StoreSeen → StoreSeen → Type 0
+OthersStayThan None None before now = now.told ≡ before.told
+OthersStayThan (Some name) None before now = OthersStay name before.told now.told
+OthersStayThan None (Some name) before now = OthersStay name before.told now.told
+OthersStayThan (Some name) (Some other) before now = (held : Option Files) × OthersStay name before.told held × OthersStay other held now.told
+
+-- whatever its status: no file changes but those that the command writes
 abbrev pub Spares : Command → StoreSeen → StoreSeen → Type 0
 Spares (Check file) before now = now.told ≡ before.told
 Spares (Compile file name) before now = OthersStay name before.told now.told
-Spares (Run image r) before now = now.told ≡ before.told
-Spares (Go file name r) before now = OthersStay name before.told now.told
+Spares (Run image r) before now = OthersStayThan None r.keep before now
+Spares (Go file name r) before now = OthersStayThan (Some name) r.keep before now
 Spares (Disasm name) before now = now.told ≡ before.told
 Spares (Assemble listing name) before now = OthersStay name before.told now.told
+Spares (Gen number name) before now = now.told ≡ before.told
 
 -- a status that is no failed call and no want of memory
 abbrev pub IfSpoken : Status → Type 0 → Type 0
@@ -180,6 +217,7 @@ IfSpoken _ P = P
 -- how a run ends that was begun
 abbrev pub IsRunEnd : Status → Type 0
 IsRunEnd status.Done = Unit {0}
+IsRunEnd (status.Schedule line) = Unit {0}
 IsRunEnd (status.Step line) = Unit {0}
 IsRunEnd (status.Message fault) = Unit {0}
 IsRunEnd _ = ⊥
@@ -192,13 +230,14 @@ IsFinish (Run name r) s = IsRunEnd s
 IsFinish (Go file name r) s = IsRunEnd s
 IsFinish (Disasm name) s = s ≡ status.Done
 IsFinish (Assemble listing name) s = s ≡ status.Done
+IsFinish (Gen number name) s = ⊥
 
 abbrev pub IsFinishOrWant : Command → Status → Type 0
 IsFinishOrWant c s = IsFinish c s ⊎ (s ≡ status.Memory)
 
 -- the words are no command, or memory for them is wanting
-abbrev pub IsNotBuilt : Status → Type 0
-IsNotBuilt s = (s ≡ status.NotBuilt) ⊎ (s ≡ status.Memory)
+abbrev pub IsNoCommand : Status → Type 0
+IsNoCommand s = (s ≡ status.Words) ⊎ (s ≡ status.Memory)
 
 -- no count of faults rose
 pub record NoneFailed (before now : StoreSeen) (out out_now : SinkSeen) : Type 0 where
@@ -207,6 +246,6 @@ pub record NoneFailed (before now : StoreSeen) (out out_now : SinkSeen) : Type 0
   pub puts : ¬ Rose out.faults out_now.faults
 
 -- the status of a run
-abbrev pub status_of : Result (Unit {0}) Status → Status
+abbrev pub status_of : {A : Type 0} → Result A Status → Status
 status_of (Ok done) = status.Done
 status_of (Err s) = s

@@ -7,7 +7,7 @@ use Rattle.redn_words.specs.declared.types.Receive.{Receive}
 use Rattle.redn_words.specs.Misfits.{misfits}
 use Rattle.redn_top.specs.declared.status.MessageFault.{MessageFault}
 use Rattle.redn_top.specs.declared.status.MessageFault.TheVariants.{NoChain, Twice, BadHex, Length}
-use Rattle.redn_top.specs.Words.{MessageWord}
+use Rattle.redn_command.specs.Words.{MessageWord}
 
 abbrev pub is_for : ℕ → MessageWord → Bool
 is_for chain w = w.chain == chain

@@ -8,8 +8,6 @@ use Rattle.redn_image.specs.declared.numbers.Fault.{Fault}
 use Rattle.redn_disasm.specs.Assembly.{Assembles, WrongLine, BreaksRule}
 use Rattle.redn_top.specs.declared.status.TextFault.TheVariants as text_fault
 use Rattle.redn_compile.specs.FirstImage.{HasFirstShape}
-use Rattle.redn_sched.specs.declared.text.Numbered.{Numbered}
-use Rattle.redn_sched.specs.ScheduleText.{lines_of, Reads}
 use Rattle.redn_top.specs.declared.limits.TheConstants.{FILE_LIMIT, IMAGE_LIMIT, LISTING_LIMIT, SCHEDULE_LIMIT}
 use Rattle.redn_top.specs.declared.status.ImageFault.{ImageFault}
 use Rattle.redn_top.specs.declared.status.ImageFault.TheVariants as image_fault
@@ -17,7 +15,7 @@ use Rattle.redn_top.specs.declared.status.MessageFault.{MessageFault}
 use Rattle.redn_top.specs.declared.status.TextFault.{TextFault}
 use Rattle.redn_top.specs.declared.status.Status.{Status}
 use Rattle.redn_top.specs.declared.status.Status.TheVariants as status
-use Rattle.redn_top.specs.Words.{Command, Check, Compile, Run, Go, Disasm, Assemble, Plan, Schedule, Fair, MessageWord}
+use Rattle.redn_command.specs.Words.{Command, Check, Compile, Run, Go, Disasm, Assemble, Gen, Plan, Schedule, Fair, Shuffle, MessageWord}
 use Rattle.redn_top.specs.MessageWords.{messages, word_faults, length_faults}
 use Rattle.redn_top.specs.Sources.{Means, TextRefused, RuleBroken}
 
@@ -37,6 +35,7 @@ pub record Input : Type 0 where
 abbrev pub IsPlanInput : Option Files → Plan → Option (List ℕ) → Type 0
 IsPlanInput told (Schedule file) found = Finds told file found
 IsPlanInput told (Fair steps) found = Unit {0}
+IsPlanInput told (Shuffle number steps) found = Unit {0}
 
 abbrev pub IsInput : Option Files → Command → Input → Type 0
 IsInput told (Check file) i = Finds told file i.first
@@ -45,6 +44,7 @@ IsInput told (Run image r) i = Finds told image i.first × IsPlanInput told r.pl
 IsInput told (Go file image r) i = Finds told file i.first × IsPlanInput told r.plan i.schedule
 IsInput told (Disasm image) i = Finds told image i.first
 IsInput told (Assemble listing image) i = Finds told listing i.first
+IsInput told (Gen number image) i = Unit {0}
 
 -- ---- reasons
 
@@ -91,10 +91,6 @@ module _ (found : Option (List ℕ)) where
   -- the rows of a listing break a rule
   abbrev pub broken_rows : Status → Type 0
   broken_rows = of_text (λ text s. (f : Fault) × Assembles text (BreaksRule f) × (s ≡ status.Image (image_fault.Rule f.rule f.index)))
-
-  -- a bad line of a schedule
-  abbrev pub bad_line : Status → Type 0
-  bad_line = of_text (λ text s. ((lines : List Numbered) × (bad : ℕ) × Reads 1 (lines_of text) lines (Some bad)) × (s ≡ status.NotBuilt))
 
 -- the first of some faults of messages
 abbrev pub first_fault : List MessageFault → Status → Type 0
@@ -146,27 +142,27 @@ image_reasons found = Or (no_image found) Nil
 abbrev pub listing_reasons : Option (List ℕ) → Reasons
 listing_reasons found = Or (wrong_line found) (Or (broken_rows found) Nil)
 
-abbrev pub line_reasons : Option (List ℕ) → Reasons
-line_reasons found = Or (bad_line found) Nil
-
 abbrev pub plan_reads : Plan → Option (List ℕ) → Reasons
 plan_reads (Schedule file) found = read_reasons found SCHEDULE_LIMIT
 plan_reads (Fair steps) found = Nil
+plan_reads (Shuffle number steps) found = Nil
 
-abbrev pub plan_lines : Plan → Option (List ℕ) → Reasons
-plan_lines (Schedule file) found = line_reasons found
-plan_lines (Fair steps) found = Nil
+-- the reads of a command that runs: its file and then the schedule
+abbrev pub run_reads : Option (List ℕ) → ℕ → Plan → Option (List ℕ) → Reasons
+run_reads found limit plan schedule = also (read_reasons found limit) (plan_reads plan schedule)
 
-abbrev pub two_reads : Option (List ℕ) → ℕ → Option (List ℕ) → Reasons
-two_reads found limit schedule = also (read_reasons found limit) (read_reasons schedule SCHEDULE_LIMIT)
+-- a command that isn't built yet
+abbrev pub not_built : Status → Type 0
+not_built s = s ≡ status.NotBuilt
 
 abbrev pub reasons : Command → Input → Reasons
 reasons (Check file) i = also (read_reasons i.first FILE_LIMIT) (source_reasons i.first)
 reasons (Compile file image) i = also (read_reasons i.first FILE_LIMIT) (program_reasons i.first)
-reasons (Run image r) i = also (also (read_reasons i.first IMAGE_LIMIT) (plan_reads r.plan i.schedule)) (also (image_reasons i.first) (plan_lines r.plan i.schedule))
+reasons (Run image r) i = also (run_reads i.first IMAGE_LIMIT r.plan i.schedule) (image_reasons i.first)
 reasons (Disasm image) i = also (read_reasons i.first IMAGE_LIMIT) (image_reasons i.first)
 reasons (Assemble listing image) i = also (read_reasons i.first LISTING_LIMIT) (listing_reasons i.first)
-reasons (Go file image r) i = also (also (read_reasons i.first FILE_LIMIT) (plan_reads r.plan i.schedule)) (also (program_reasons i.first) (plan_lines r.plan i.schedule))
+reasons (Go file image r) i = also (run_reads i.first FILE_LIMIT r.plan i.schedule) (program_reasons i.first)
+reasons (Gen number image) i = Or not_built Nil
 
 -- with an image at hand, those of messages
 abbrev pub message_reasons : Image → List MessageWord → Reasons

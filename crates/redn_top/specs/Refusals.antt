@@ -1,25 +1,28 @@
 -- What the parts of a command refuse, and what each leaves.
-use Rattle.std.specs.Prelude.{◌≡◌, ℕ, ◌≤◌, List, [], ◌∷◌, ◌++◌, length, take, Option, Some, None}
+use Rattle.std.specs.Prelude.{◌≡◌, ◌⊎◌, ℕ, ◌≤◌, List, [], ◌∷◌, ◌++◌, length, take, Option, Some, None}
 use Rattle.std.specs.Option.{option_map}
 use Rattle.redn_words.specs.States.{State}
-use Rattle.redn_outside.specs.Files.{Files}
+use Rattle.redn_outside.specs.Files.{Files, OthersStay}
 use Rattle.redn_outside.specs.Seen.{StoreSeen, SinkSeen, ReadFailed, WriteFailed, PutFailed, MissingRose, LongRose}
 use Rattle.redn_image.specs.Rules.{Image}
 use Rattle.redn_image.specs.Faithful.{start_of}
+use Rattle.redn_words.specs.declared.types.Action.{Action}
 use Rattle.redn_sched.specs.declared.text.Numbered.{Numbered}
-use Rattle.redn_sched.specs.ScheduleText.{lines_of, Reads}
+use Rattle.redn_sched.specs.ScheduleText.{Begins}
 use Rattle.redn_syntax.specs.declared.tree.File.{File}
 use Rattle.redn_check.specs.Faults.{fault, IsFirst}
 use Rattle.redn_check.specs.Rules.{Accepts, faults}
 use Rattle.redn_top.specs.declared.status.Status.{Status}
 use Rattle.redn_top.specs.declared.status.Status.TheVariants as status
-use Rattle.redn_top.specs.Words.{MessageWord}
+use Rattle.redn_command.specs.Words.{MessageWord, Plan, Schedule, Fair, Shuffle, Command, Run, Go, RunWords}
+use Rattle.redn_command.specs.declared.limits.TheConstants.{MOST_STEPS}
 use Rattle.hex.specs.Hex.{decode_of}
 use Rattle.redn_top.specs.MessageWords.{bad_hex, messages}
 use Rattle.redn_top.specs.Sources.{TextRefused, RuleBroken}
-use Rattle.redn_top.specs.RunText.{BreaksOff, IsCut, StopsAt, fair_text}
-use Rattle.redn_top.specs.Reasons.{Finds, NoneHolds, Reasons, First, message_reasons, read_reasons, two_reads}
-use Rattle.redn_top.specs.Answers.{RunsFairly, RunsImage}
+use Rattle.redn_top.specs.RunText.{BreaksOff, MeetsBad, IsCut, StopsAt, planned, steps_asked, made_text}
+use Rattle.redn_top.specs.Reasons.{Finds, IsPlanInput, NoneHolds, Reasons, First, message_reasons, read_reasons, run_reads}
+use Rattle.redn_top.specs.Answers.{Written, with_written, kept, Ran, IsRunPart, RunsMade, RunsImage, IsMadePart, opened}
+use Rattle.redn_top.specs.declared.limits.TheConstants.{SCHEDULE_LIMIT}
 
 -- a file that is held and short enough
 pub record IsHeld (told : Option Files) (name : List ℕ) (limit : ℕ) (bytes : List ℕ) : Type 0 where
@@ -40,13 +43,27 @@ pub record ReadRefused (told : Option Files) (name : List ℕ) (limit : ℕ) (be
   pub found : Finds told name file
   pub refuses : ReadsRefuse (read_reasons file limit) before now s
 
--- what two reads find, where they are refused
-pub record RunReadRefused (told : Option Files) (name : List ℕ) (limit : ℕ) (schedule : List ℕ) (before now : StoreSeen) (s : Status) : Type 0 where
+-- a schedule that is held and short enough, where the plan reads one
+abbrev pub IsPlanHeld : Option Files → Plan → Option (List ℕ) → Type 0
+IsPlanHeld told (Schedule file) None = ⊥
+IsPlanHeld told (Schedule file) (Some text) = IsHeld told file SCHEDULE_LIMIT text
+IsPlanHeld told (Fair steps) text = text ≡ None
+IsPlanHeld told (Shuffle number steps) text = text ≡ None
+
+-- the text of a schedule, where the plan has one
+abbrev pub HasText : Plan → Option (List ℕ) → Type 0
+HasText (Schedule file) None = ⊥
+HasText (Schedule file) (Some text) = length text ≤ SCHEDULE_LIMIT
+HasText (Fair steps) text = text ≡ None
+HasText (Shuffle number steps) text = text ≡ None
+
+-- what the reads of a run find, where they are refused
+pub record RunReadRefused (told : Option Files) (name : List ℕ) (limit : ℕ) (plan : Plan) (before now : StoreSeen) (s : Status) : Type 0 where
   pub file : Option (List ℕ)
-  pub lines : Option (List ℕ)
+  pub schedule : Option (List ℕ)
   pub found : Finds told name file
-  pub schedule_found : Finds told schedule lines
-  pub refuses : ReadsRefuse (two_reads file limit lines) before now s
+  pub schedule_found : IsPlanInput told plan schedule
+  pub refuses : ReadsRefuse (run_reads file limit plan schedule) before now s
 
 -- why contents are refused, by the first of these reasons
 abbrev pub Refuses : Reasons → Status → Type 0
@@ -75,10 +92,6 @@ SourceRefused source (status.Text fault) = TextRefused source fault
 SourceRefused source (status.Program rule at seen) = RuleBroken source rule at seen
 SourceRefused source status.Memory = Unit {0}
 SourceRefused source _ = ⊥
-
--- a schedule without a bad line has these actions
-abbrev pub HasActions : List ℕ → List Numbered → Type 0
-HasActions schedule lines = Reads 1 (lines_of schedule) lines None
 
 -- why digits are no message for a chain
 abbrev pub DigitsRefused : ℕ → List ℕ → Status → Type 0
@@ -112,10 +125,11 @@ LinesRefused text before now status.WriteFailed = PutFailed before now × ((prin
 LinesRefused text before now _ = ⊥
 
 -- why a schedule wasn't run to its end, from a state
-abbrev pub RunRefused : State → List Numbered → SinkSeen → SinkSeen → Status → Type 0
-RunRefused s lines before now (status.Step line) = (printed : List ℕ) × StopsAt s lines line printed × (now.told ≡ option_map (λ text. text ++ printed) before.told)
-RunRefused s lines before now status.WriteFailed = PutFailed before now × ((printed : List ℕ) × BreaksOff s lines printed × (now.told ≡ option_map (λ text. text ++ printed) before.told))
-RunRefused s lines before now _ = ⊥
+abbrev pub RunRefused : State → List ℕ → SinkSeen → SinkSeen → Status → Type 0
+RunRefused s text before now (status.Step line) = (printed : List ℕ) × StopsAt s text line printed × (now.told ≡ option_map (λ t. t ++ printed) before.told)
+RunRefused s text before now (status.Schedule line) = (printed : List ℕ) × MeetsBad s text line printed × (now.told ≡ option_map (λ t. t ++ printed) before.told)
+RunRefused s text before now status.WriteFailed = PutFailed before now × ((printed : List ℕ) × BreaksOff s text printed × (now.told ≡ option_map (λ t. t ++ printed) before.told))
+RunRefused s text before now _ = ⊥
 
 -- something ran so, and this was put
 abbrev pub Printed : (Status → List ℕ → Type 0) → SinkSeen → SinkSeen → Status → Type 0
@@ -126,23 +140,41 @@ abbrev pub RanBy : (Status → List ℕ → Type 0) → (List ℕ → Type 0) �
 RanBy Runs IsPart before now status.WriteFailed = PutFailed before now × ((printed : List ℕ) × IsPart printed × (now.told ≡ option_map (λ text. text ++ printed) before.told))
 RanBy Runs IsPart before now status.Memory = Unit {0}
 RanBy Runs IsPart before now status.Done = Printed Runs before now status.Done
+RanBy Runs IsPart before now (status.Schedule line) = Printed Runs before now (status.Schedule line)
 RanBy Runs IsPart before now (status.Step line) = Printed Runs before now (status.Step line)
 RanBy Runs IsPart before now (status.Message fault) = Printed Runs before now (status.Message fault)
 RanBy Runs IsPart before now _ = ⊥
 
--- how an image was run with messages under these lines
-abbrev pub ImageRan : Image → List MessageWord → List Numbered → SinkSeen → SinkSeen → Status → Type 0
-ImageRan image words lines = RanBy (RunsImage image words lines) (λ printed. NoneHolds (message_reasons image words) × IsCut (start_of image (messages (length image.receives) words)) lines printed)
+-- how an image was run with messages under the text of a schedule
+abbrev pub ImageRan : Image → List MessageWord → List ℕ → SinkSeen → SinkSeen → Status → Type 0
+ImageRan image words text = RanBy (RunsImage image words text) (λ printed. NoneHolds (message_reasons image words) × IsCut (opened image words) text printed)
 
--- how it was run by the fair rules
-abbrev pub FairRan : Image → List MessageWord → ℕ → SinkSeen → SinkSeen → Status → Type 0
-FairRan image words steps =
-    RanBy (RunsFairly image words steps) (λ printed. NoneHolds (message_reasons image words) × ((rest : List ℕ) × (fair_text (start_of image (messages (length image.receives) words)) steps ≡ printed ++ rest)))
+-- why it wasn't run to its end
+abbrev pub MadeStopped : Image → List MessageWord → Plan → SinkSeen → SinkSeen → Status → Type 0
+MadeStopped image words plan before now (status.Message fault) = Printed (RunsMade image words plan) before now (status.Message fault)
+MadeStopped image words plan before now status.WriteFailed = PutFailed before now × ((printed : List ℕ) × IsMadePart plan words image printed × (now.told ≡ option_map (λ text. text ++ printed) before.told))
+MadeStopped image words plan before now status.Memory = Unit {0}
+MadeStopped image words plan before now _ = ⊥
 
--- why a run by the fair rules wasn't put whole, from a state
-abbrev pub FairRefused : State → ℕ → SinkSeen → SinkSeen → Status → Type 0
-FairRefused s steps before now status.WriteFailed = PutFailed before now × ((printed : List ℕ) × (rest : List ℕ) × (fair_text s steps ≡ printed ++ rest) × (now.told ≡ option_map (λ text. text ++ printed) before.told))
-FairRefused s steps before now _ = ⊥
+-- it was run to its end
+abbrev pub MadeWhole : Image → List MessageWord → Plan → SinkSeen → SinkSeen → Type 0
+MadeWhole image words plan before now = Printed (RunsMade image words plan) before now status.Done
+
+-- why a run by such a plan wasn't put whole, from a state
+abbrev pub MadeRefused : State → ℕ → List Action → SinkSeen → SinkSeen → Status → Type 0
+MadeRefused s steps acts before now status.WriteFailed = PutFailed before now × ((printed : List ℕ) × (rest : List ℕ) × (made_text s steps acts ≡ printed ++ rest) × (now.told ≡ option_map (λ text. text ++ printed) before.told))
+MadeRefused s steps acts before now status.Memory = Unit {0}
+MadeRefused s steps acts before now _ = ⊥
+
+-- few enough steps
+abbrev pub IsFew : Plan → Type 0
+IsFew p = steps_asked p ≤ MOST_STEPS
+
+-- a plan that makes the actions
+abbrev pub MakesActions : Plan → Type 0
+MakesActions (Schedule file) = ⊥
+MakesActions (Fair steps) = Unit {0}
+MakesActions (Shuffle number steps) = Unit {0}
 
 -- why an image wasn't written
 abbrev pub WriteRefused : StoreSeen → StoreSeen → Status → Type 0
@@ -153,3 +185,53 @@ WriteRefused before now _ = ⊥
 abbrev pub OnlyMemory : Status → Type 0
 OnlyMemory status.Memory = Unit {0}
 OnlyMemory _ = ⊥
+
+-- ---- a run by its plan
+
+abbrev pub run_of : Plan → Option (List ℕ) → List MessageWord → RunWords
+run_of plan keep messages = record { plan = plan; keep = keep; messages = messages }
+
+-- a schedule's steps aren't recorded, and others are few enough
+abbrev pub IsRunnable : Plan → Option (List ℕ) → Type 0
+IsRunnable (Schedule file) keep = keep ≡ None
+IsRunnable (Fair steps) keep = steps ≤ MOST_STEPS
+IsRunnable (Shuffle number steps) keep = steps ≤ MOST_STEPS
+
+abbrev pub CanRun : Command → Type 0
+CanRun (Run image r) = IsRunnable r.plan r.keep
+CanRun (Go file image r) = IsRunnable r.plan r.keep
+CanRun _ = Unit {0}
+
+-- an image was run by its plan, and the record of the steps made was written where it is asked for
+pub record RunEnded (schedule : Option (List ℕ)) (r : RunWords) (image : Image) (before now : StoreSeen) (out out_now : SinkSeen) (s : Status) : Type 0 where
+  pub printed : List ℕ
+  pub ran : Ran schedule r.plan r.messages image s printed
+  pub holds : now.told ≡ option_map (with_written (kept r image s)) before.told
+  pub prints : out_now.told ≡ option_map (λ text. text ++ printed) out.told
+
+-- a put failed
+pub record RunBroke (schedule : Option (List ℕ)) (r : RunWords) (image : Image) (before now : StoreSeen) (out out_now : SinkSeen) : Type 0 where
+  pub printed : List ℕ
+  pub failed : PutFailed out out_now
+  pub part : IsRunPart schedule r.plan r.messages image printed
+  pub holds : now.told ≡ before.told
+  pub prints : out_now.told ≡ option_map (λ text. text ++ printed) out.told
+
+-- the write of the record failed
+pub record RunLost (schedule : Option (List ℕ)) (r : RunWords) (image : Image) (before now : StoreSeen) (out out_now : SinkSeen) : Type 0 where
+  pub printed : List ℕ
+  pub last : Written
+  pub failed : WriteFailed before now
+  pub ran : Ran schedule r.plan r.messages image status.Done printed
+  pub record_is : kept r image status.Done ≡ last ∷ []
+  pub others : OthersStay last.name before.told now.told
+  pub prints : out_now.told ≡ option_map (λ text. text ++ printed) out.told
+
+abbrev pub RunEnds : Option (List ℕ) → RunWords → Image → StoreSeen → StoreSeen → SinkSeen → SinkSeen → Status → Type 0
+RunEnds schedule r image before now out out_now status.Done = RunEnded schedule r image before now out out_now status.Done
+RunEnds schedule r image before now out out_now (status.Schedule line) = RunEnded schedule r image before now out out_now (status.Schedule line)
+RunEnds schedule r image before now out out_now (status.Step line) = RunEnded schedule r image before now out out_now (status.Step line)
+RunEnds schedule r image before now out out_now (status.Message fault) = RunEnded schedule r image before now out out_now (status.Message fault)
+RunEnds schedule r image before now out out_now status.WriteFailed = RunBroke schedule r image before now out out_now ⊎ RunLost schedule r image before now out out_now
+RunEnds schedule r image before now out out_now status.Memory = Unit {0}
+RunEnds schedule r image before now out out_now _ = ⊥

@@ -7,10 +7,11 @@ use Rattle.redn_top.specs.declared.status.ImageFault.TheVariants.{Magic, Version
 use Rattle.redn_top.specs.declared.status.MessageFault.{MessageFault}
 use Rattle.redn_top.specs.declared.status.MessageFault.TheVariants.{NoChain, Twice, BadHex, Length}
 use Rattle.redn_top.specs.declared.status.Status.{Status}
-use Rattle.redn_top.specs.declared.status.Status.TheVariants.{Done, ReadFailed, Missing, WriteFailed, Long, Text, Program, Image, Memory, Step, Message, NotBuilt}
+use Rattle.redn_top.specs.declared.status.Status.TheVariants.{Done, Words, ReadFailed, Missing, WriteFailed, Long, Text, Program, Image, Memory, Schedule, Step, Message, NotBuilt}
 
 abbrev pub code_of : Status → ℕ
 code_of Done = 0
+code_of Words = 2
 code_of ReadFailed = 3
 code_of WriteFailed = 4
 code_of (Long seen limit) = 5
@@ -18,6 +19,7 @@ code_of (Text fault) = 6
 code_of (Program rule at seen) = 7
 code_of (Image fault) = 8
 code_of Memory = 9
+code_of (Schedule line) = 10
 code_of (Step line) = 11
 code_of (Message fault) = 12
 code_of NotBuilt = 13
@@ -44,6 +46,7 @@ message_fault (Length chain got want) = codes "chain " ++ decimal chain ++ codes
 -- the line for standard error, which is nothing where all was done
 abbrev pub status_text : Status → List ℕ
 status_text Done = []
+status_text Words = codes "redn: words refused\n"
 status_text ReadFailed = codes "redn: read failed\n"
 status_text WriteFailed = codes "redn: write failed\n"
 status_text (Long seen limit) = codes "redn: file too long: limit " ++ decimal limit ++ codes "\n"
@@ -51,6 +54,7 @@ status_text (Text fault) = codes "redn: text refused: " ++ text_fault fault ++ c
 status_text (Program rule at seen) = codes "redn: program refused: rule " ++ decimal rule ++ codes " at byte " ++ decimal at ++ codes "\n"
 status_text (Image fault) = codes "redn: image refused: " ++ image_fault fault ++ codes "\n"
 status_text Memory = codes "redn: out of memory\n"
+status_text (Schedule line) = codes "redn: schedule refused: line " ++ decimal line ++ codes "\n"
 status_text (Step line) = codes "redn: step not possible: line " ++ decimal line ++ codes "\n"
 status_text (Message fault) = codes "redn: message refused: " ++ message_fault fault ++ codes "\n"
 status_text NotBuilt = codes "redn: not built\n"

@@ -10,7 +10,7 @@ mod status;
 #[cfg(test)]
 mod tests;
 mod top;
-mod words;
 
+pub use redn_command::{Command, MessageWord, Plan, WordsFault, command_of};
 pub use status::{ImageFault, MessageFault, Status, TextFault, status_code, status_line};
 pub use top::redn;

@@ -1,4 +1,4 @@
-//! How long the files that are read may be, in bytes, and how many steps a made schedule may have.
+//! How long the files that are read may be, in bytes.
 
 /// The greatest length of a source file.
 pub const FILE_LIMIT: u64 = 1_048_576;
@@ -11,6 +11,3 @@ pub const LISTING_LIMIT: u64 = 268_435_456;
 
 /// The greatest length of a schedule.
 pub const SCHEDULE_LIMIT: u64 = 16_777_216;
-
-/// The most steps of the fair schedule.
-pub const MOST_STEPS: u64 = 4_000_000;

@@ -1,24 +1,24 @@
 //! The messages that words give to the chains of an image.
 
-ghost use Rattle.std.specs.Prelude.{◌≡◌, Ok, None, [], replicate, map, IfOk, IfErr, OnOk};
+ghost use Rattle.std.specs.Prelude.{◌≡◌, Ok, None, [], replicate, map, string_bytes, IfOk, IfErr, OnOk};
 ghost use Rattle.hex.specs.Hex.{decode_of};
-ghost use Rattle.redn_top.specs.Words.{message_view};
+ghost use Rattle.redn_command.specs.Words.{message_view};
 ghost use Rattle.redn_top.specs.MessageWords.{messages, word_faults};
 ghost use Rattle.redn_top.specs.Refusals.{DigitsRefused, WordsRefused};
 ghost use Rattle.redn_top.specs.Reasons.{Or, Nil, first_fault};
 
 use crate::status::{MessageFault, Status};
-use crate::words::MessageWord;
 use hex::FromHexError;
+use redn_command::MessageWord;
 use redn_words::{Memory, Messages};
 use std::alloc::Global;
 
 /// The bytes of a message word.
-fn message_bytes(alloc: Global, word: &MessageWord<'_>) -> Result<Vec<u8>, Status>
-    ensures bytes { IfOk result (λ bytes. decode_of word.now.digits.now ≡ Ok bytes.items) }
-    ensures refused { IfErr result (DigitsRefused word.now.chain word.now.digits.now) }
+fn message_bytes(alloc: Global, word: &MessageWord) -> Result<Vec<u8>, Status>
+    ensures bytes { IfOk result (λ bytes. decode_of (string_bytes word.now.hex) ≡ Ok bytes.items) }
+    ensures refused { IfErr result (DigitsRefused word.now.chain (string_bytes word.now.hex)) }
 {
-    match hex::decode(alloc, word.digits) {
+    match hex::decode(alloc, word.hex.as_bytes()) {
         Ok(bytes) => Ok(bytes),
         Err(FromHexError::OutOfMemory) => Err(Status::Memory),
         Err(_) => Err(Status::Message(MessageFault::BadHex { chain: word.chain })),
@@ -37,11 +37,7 @@ fn no_messages(alloc: Global, chains: usize) -> Result<Vec<Option<Vec<u8>>>, Mem
 }
 
 /// The messages for so many chains that words give.
-pub fn messages_of(
-    alloc: Global,
-    chains: usize,
-    words: &[MessageWord<'_>],
-) -> Result<Messages, Status>
+pub fn messages_of(alloc: Global, chains: usize, words: &[MessageWord]) -> Result<Messages, Status>
     ensures messages { IfOk result (λ ms. ms ≡ messages chains (map message_view words.now)) }
     ensures accepted { OnOk result (word_faults chains [] (map message_view words.now) ≡ []) }
     ensures refused { IfErr result

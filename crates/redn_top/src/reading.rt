@@ -1,7 +1,9 @@
 //! What is read before anything is written.
 
 ghost use Rattle.std.specs.Prelude.{◌≡◌, ◌^◌, ◌-◌, ◌<◌, ◌≤◌, ℕ, List, Some, length, IfOk, IfErr, OnOk};
+ghost use Rattle.std.specs.Option.{option_map};
 ghost use Rattle.redn_outside.specs.Seen.{KeepsFiles};
+ghost use Rattle.redn_command.specs.Words.{plan_view};
 ghost use Rattle.redn_kernel.specs.Program.{IsSound};
 ghost use Rattle.redn_compile.specs.FirstImage.{HasFirstShape};
 ghost use Rattle.redn_image.specs.Spelling.{Spells, refused};
@@ -11,19 +13,18 @@ ghost use Rattle.redn_disasm.specs.Assembly.{Assembles, Made};
 ghost use Rattle.redn_disasm.specs.Going.{SaysWhy as MeansNoImage};
 ghost use Rattle.redn_disasm.specs.Laws.{OneMeaning};
 ghost use Rattle.redn_top.specs.Sources.{Means};
-ghost use Rattle.redn_top.specs.Reasons.{NoneHolds, also, image_reasons, line_reasons, listing_reasons, program_reasons};
-ghost use Rattle.redn_top.specs.Refusals.{HasActions, IsHeld, ReadRefused, Refuses, RunReadRefused};
+ghost use Rattle.redn_top.specs.Reasons.{NoneHolds, image_reasons, listing_reasons, program_reasons};
+ghost use Rattle.redn_top.specs.Refusals.{IsHeld, IsPlanHeld, ReadRefused, Refuses, RunReadRefused};
 
 use crate::limits::{FILE_LIMIT, SCHEDULE_LIMIT};
 use crate::source::read_program;
 use crate::status::{ImageFault, Status, TextFault};
+use redn_command::Plan;
 use redn_compile::has_first_shape;
 use redn_disasm::{ListFault, a_text_has_one_meaning, assemble};
 use redn_image::{Image, read_image};
 use redn_kernel::Program;
 use redn_outside::{ReadFault, Store};
-use redn_sched::{Numbered, read_schedule};
-use redn_words::Memory;
 use std::alloc::Global;
 
 /// A file of at most `limit` bytes.
@@ -48,25 +49,30 @@ pub fn read_file<S: Store>(
     }
 }
 
-/// A file of at most `limit` bytes, and a schedule.
-pub fn read_two<S: Store>(
+/// A file of at most `limit` bytes, and the schedule where the plan names one.
+pub fn read_run<S: Store>(
     alloc: Global,
     store: &mut S,
     name: &str,
     limit: u64,
-    schedule: &str,
-) -> Result<(Vec<u8>, Vec<u8>), Status>
+    plan: &Plan,
+) -> Result<(Vec<u8>, Option<Vec<u8>>), Status>
     requires { limit < 2 ^ 64 - 1 }
     ensures stays { KeepsFiles (S.seen store.old) (S.seen store.new) }
     ensures held { IfOk result (λ files. IsHeld (S.seen store.old).told name.now limit files.0.items) }
-    ensures schedule_held { IfOk result
-        (λ files. IsHeld (S.seen store.old).told schedule.now SCHEDULE_LIMIT files.1.items) }
-    ensures refused { IfErr result (RunReadRefused (S.seen store.old).told name.now limit schedule.now
+    ensures schedule_held { IfOk result (λ files. IsPlanHeld (S.seen store.old).told (plan_view plan.now)
+        (option_map (λ v. v.items) files.1)) }
+    ensures refused { IfErr result (RunReadRefused (S.seen store.old).told name.now limit (plan_view plan.now)
         (S.seen store.old) (S.seen store.new)) }
 {
     let first = read_file(alloc, store, name, limit)?;
-    let second = read_file(alloc, store, schedule, SCHEDULE_LIMIT)?;
-    Ok((first, second))
+    match plan {
+        Plan::Schedule { file } => {
+            let second = read_file(alloc, store, file.as_str(), SCHEDULE_LIMIT)?;
+            Ok((first, Some(second)))
+        }
+        Plan::Fair { .. } | Plan::Shuffle { .. } => Ok((first, None)),
+    }
 }
 
 /// The program of a source text, where it has the one shape that is compiled.
@@ -83,20 +89,6 @@ pub fn first_program(alloc: Global, text: &[u8]) -> Result<Program, Status>
         Ok(program)
     } else {
         Err(Status::NotBuilt)
-    }
-}
-
-/// The actions of a schedule without a bad line.
-fn schedule_lines(alloc: Global, text: &[u8]) -> Result<Vec<Numbered>, Status>
-    requires { length text.now ≤ SCHEDULE_LIMIT }
-    ensures actions { IfOk result (λ lines. HasActions text.now lines.items) }
-    ensures accepted { OnOk result (NoneHolds (line_reasons (Some text.now))) }
-    ensures refused { IfErr result (Refuses (line_reasons (Some text.now))) }
-{
-    match read_schedule(alloc, text) {
-        Ok(schedule) if schedule.bad.is_none() => Ok(schedule.actions),
-        Ok(_) => Err(Status::NotBuilt),
-        Err(Memory) => Err(Status::Memory),
     }
 }
 
@@ -149,45 +141,4 @@ pub fn image_of_listing(alloc: Global, text: &[u8]) -> Result<Image, Status>
         Ok(image) => Ok(image),
         Err(fault) => Err(refused_listing(fault)),
     }
-}
-
-/// The program of a source text and the actions of a schedule.
-pub fn plan_go(
-    alloc: Global,
-    source: &[u8],
-    schedule: &[u8],
-) -> Result<(Program, Vec<Numbered>), Status>
-    requires source_fits { length source.now ≤ FILE_LIMIT }
-    requires schedule_fits { length schedule.now ≤ SCHEDULE_LIMIT }
-    ensures means { IfOk result (λ plan. Means source.now plan.0) }
-    ensures sound { IfOk result (λ plan. IsSound plan.0) }
-    ensures shape { IfOk result (λ plan. HasFirstShape plan.0) }
-    ensures actions { IfOk result (λ plan. HasActions schedule.now plan.1.items) }
-    ensures accepted { OnOk result
-        (NoneHolds (also (program_reasons (Some source.now)) (line_reasons (Some schedule.now)))) }
-    ensures refused { IfErr result
-        (Refuses (also (program_reasons (Some source.now)) (line_reasons (Some schedule.now)))) }
-{
-    let program = first_program(alloc, source)?;
-    let lines = schedule_lines(alloc, schedule)?;
-    Ok((program, lines))
-}
-
-/// The image that bytes spell and the actions of a schedule.
-pub fn plan_run(
-    alloc: Global,
-    bytes: &[u8],
-    schedule: &[u8],
-) -> Result<(Image, Vec<Numbered>), Status>
-    requires { length schedule.now ≤ SCHEDULE_LIMIT }
-    ensures spells { IfOk result (λ plan. Spells bytes.now plan.0) }
-    ensures actions { IfOk result (λ plan. HasActions schedule.now plan.1.items) }
-    ensures accepted { OnOk result
-        (NoneHolds (also (image_reasons (Some bytes.now)) (line_reasons (Some schedule.now)))) }
-    ensures refused { IfErr result
-        (Refuses (also (image_reasons (Some bytes.now)) (line_reasons (Some schedule.now)))) }
-{
-    let image = image_in(alloc, bytes)?;
-    let lines = schedule_lines(alloc, schedule)?;
-    Ok((image, lines))
 }

@@ -1,29 +1,31 @@
 //! The run of an image.
 
-ghost use Rattle.std.specs.Prelude.{◌≡◌, ◌^◌, ◌+◌, ◌≤◌, ◌<◌, ◌++◌, [], length, map, IfOk, IfErr, OnOk};
+ghost use Rattle.std.specs.Prelude.{◌≡◌, ◌^◌, ◌+◌, ◌<◌, ◌++◌, ℕ, suc, true, None, [], ◌∷◌, length, map, IfOk, IfErr, IfSome, OnOk};
 ghost use Rattle.std.specs.Option.{option_map};
-ghost use Rattle.redn_words.specs.Runs.{AllPossible};
+ghost use Rattle.redn_words.specs.declared.types.Action.{Action as ActionValue};
+ghost use Rattle.redn_words.specs.Steps.{after, possible};
 ghost use Rattle.redn_trace.specs.EventText.{event_text, IsPrintable};
 ghost use Rattle.redn_adapter.specs.Opening.{opened};
-ghost use Rattle.redn_sched.specs.MadeView.{first_making};
-ghost use Rattle.redn_top.specs.declared.limits.TheConstants.{MOST_STEPS};
+ghost use Rattle.redn_sched.specs.MadeView.{followed_by};
+ghost use Rattle.redn_sched.specs.Pieces.{actions_got, bad_got};
+ghost use Rattle.redn_command.specs.Words.{message_view, plan_view};
 ghost use Rattle.redn_top.specs.MessageWords.{length_faults};
-ghost use Rattle.redn_top.specs.Words.{message_view};
-ghost use Rattle.redn_top.specs.RunText.{actions_of, events_text, fair_text};
+ghost use Rattle.redn_top.specs.RunText.{made_text, planned, steps_asked};
 ghost use Rattle.redn_top.specs.Reasons.{Or, Nil, first_fault};
-ghost use Rattle.redn_top.specs.Refusals.{FairRan, FairRefused, FaultsStay, ImageRan, LinesRefused, PutRefused, RunRefused, WordsRefused};
-ghost use Rattle.redn_top.specs.Answers.{status_of};
+ghost use Rattle.redn_top.specs.Refusals.{FaultsStay, ImageRan, IsFew, LinesRefused, MadeRefused, MadeStopped, MadeWhole, MakesActions, PutRefused, RunRefused, WordsRefused};
+ghost use Rattle.redn_top.specs.Answers.{opened as opened_with, status_of};
+ghost use Rattle.redn_top.specs.Makers.{IsFor, IsMakerOf, Makes, RanAll, StepRefused, made_from};
 
 use crate::messages::messages_of;
 use crate::status::{MessageFault, Status};
-use crate::words::MessageWord;
 use redn_adapter::{Adapter, OpenFault, open};
+use redn_command::{MessageWord, Plan};
 use redn_disasm::next_line;
 use redn_image::Image;
 use redn_outside::{Failed, Sink};
-use redn_sched::{Fair, Numbered};
+use redn_sched::{Fair, Got, ScheduleReader, Shuffle};
 use redn_trace::event_line;
-use redn_words::{Messages, Obs};
+use redn_words::{Action, Memory, Messages, Obs};
 use std::alloc::Global;
 
 /// Puts one piece.
@@ -71,47 +73,115 @@ pub fn put_lines<K: Sink>(out: &mut K, text: &[u8]) -> Result<(), Status>
     Ok(())
 }
 
-/// Makes the steps of a schedule, and puts the line of each event.
-fn run<K: Sink>(adapter: &mut Adapter, lines: &[Numbered], out: &mut K) -> Result<(), Status>
-    requires { adapter.old.steps + length lines.now < 2 ^ 62 }
-    ensures possible { OnOk result (AllPossible adapter.old.state (actions_of lines.now)) }
+/// Makes the step of a line that was read, if it has an action, and puts the line of its event.
+fn make_step<K: Sink>(adapter: &mut Adapter, got: Got, out: &mut K) -> Result<(), Status>
+    requires { adapter.old.steps < 2 ^ 62 }
     ensures stays { FaultsStay (K.seen out.old) (K.seen out.new) }
-    ensures text { OnOk result ((K.seen out.new).told ≡ option_map
-        (λ before. before ++ events_text adapter.old.state (actions_of lines.now))
-        (K.seen out.old).told) }
-    ensures refused { IfErr result
-        (RunRefused adapter.old.state lines.now (K.seen out.old) (K.seen out.new)) }
+    ensures made { OnOk result (Makes (actions_got got) adapter.old adapter.new (K.seen out.old).told (K.seen out.new).told) }
+    ensures good { OnOk result (bad_got got ≡ None) }
+    ensures refused { IfErr result (StepRefused got adapter.old.state (K.seen out.old) (K.seen out.new)) }
 {
-    for numbered in lines {
-        let Some(shown) = adapter.step(numbered.action) else {
-            return Err(Status::Step {
-                line: numbered.line,
-            });
-        };
-        put_event(out, &shown)?;
+    match got {
+        Got::More => Ok(()),
+        Got::Bad { line } => Err(Status::Schedule { line }),
+        Got::Action { line, action } => {
+            let Some(shown) = adapter.step(action) else {
+                return Err(Status::Step { line });
+            };
+            put_event(out, &shown)
+        }
     }
+}
+
+/// Makes the steps of a schedule's text as its lines are read, and puts the line of each event.
+fn run<K: Sink>(adapter: &mut Adapter, text: &[u8], out: &mut K) -> Result<(), Status>
+    requires { adapter.old.steps + length text.now < 2 ^ 61 }
+    ensures stays { FaultsStay (K.seen out.old) (K.seen out.new) }
+    ensures ran { OnOk result (RanAll adapter.old.state text.now (K.seen out.old).told (K.seen out.new).told) }
+    ensures refused { IfErr result (RunRefused adapter.old.state text.now (K.seen out.old) (K.seen out.new)) }
+{
+    let mut reader = ScheduleReader::new();
+    let mut rest = text;
+    while !rest.is_empty() {
+        let fed = reader.feed(rest);
+        make_step(adapter, fed.got, out)?;
+        rest = &rest[fed.taken..];
+    }
+    let last = reader.finish();
+    make_step(adapter, last, out)
+}
+
+/// What makes the actions of a run.
+#[derive(Drop)]
+enum Maker {
+    Fair(Fair),
+    Shuffle(Shuffle),
+}
+
+impl Maker {
+    /// The next action, or none where no useful action is possible.
+    fn next(&mut self, a: &Adapter) -> Option<Action>
+        requires { IsFor self.old a.now.state }
+        ensures possible { IfSome result (λ act. possible a.now.state act ≡ true) }
+        ensures list { (n : ℕ) → made_from (suc n) a.now.state self.old
+            ≡ followed_by result (λ act. made_from n (after a.now.state act) self.new) }
+        ensures stays { (act : ActionValue) → IsFor self.new (after a.now.state act) }
+    {
+        match self {
+            Maker::Fair(fair) => fair.next_fair(a),
+            Maker::Shuffle(shuffle) => shuffle.next_shuffled(a),
+        }
+    }
+}
+
+/// What makes the actions of a plan, or none where a schedule does.
+fn maker_of(alloc: Global, plan: &Plan, a: &Adapter) -> Result<Option<Maker>, Memory>
+    ensures { IfOk result (IsMakerOf (plan_view plan.now) a.now.state) }
+{
+    match plan {
+        Plan::Schedule { .. } => Ok(None),
+        Plan::Fair { .. } => Ok(Some(Maker::Fair(Fair::new(alloc, a)?))),
+        Plan::Shuffle { number, .. } => {
+            Ok(Some(Maker::Shuffle(Shuffle::new(alloc, a, *number)?)))
+        }
+    }
+}
+
+/// Adds an action to those that are kept.
+fn keep_action(made: &mut Vec<Action>, action: Action) -> Result<(), Memory>
+    ensures { OnOk result (made.new.items ≡ made.old.items ++ action ∷ []) }
+{
+    made.push(action)?;
     Ok(())
 }
 
-/// Makes steps by the fair rules, and puts the line of each event and an end line.
-fn run_fair<K: Sink>(
+/// Makes some steps and puts the line of each event and an end line. The actions are added to those
+/// made, where they are to be kept.
+fn run_made<K: Sink>(
     adapter: &mut Adapter,
-    fair: &mut Fair,
+    maker: &mut Maker,
     steps: u64,
+    keep: bool,
+    made: &mut Vec<Action>,
     out: &mut K,
 ) -> Result<(), Status>
-    requires first { fair.old ≡ first_making adapter.old.state }
+    requires maker { IsFor maker.old adapter.old.state }
     requires few { adapter.old.steps + steps < 2 ^ 62 }
+    requires none { made.old.items ≡ [] }
     ensures stays { FaultsStay (K.seen out.old) (K.seen out.new) }
-    ensures text { OnOk result ((K.seen out.new).told ≡ option_map
-        (λ before. before ++ fair_text adapter.old.state steps) (K.seen out.old).told) }
-    ensures refused { IfErr result
-        (FairRefused adapter.old.state steps (K.seen out.old) (K.seen out.new)) }
+    ensures text { OnOk result ((K.seen out.new).told ≡ option_map (λ before. before
+        ++ made_text adapter.old.state steps (made_from steps adapter.old.state maker.old)) (K.seen out.old).told) }
+    ensures kept { OnOk result (keep ≡ true → made.new.items ≡ made_from steps adapter.old.state maker.old) }
+    ensures refused { IfErr result (MadeRefused adapter.old.state steps
+        (made_from steps adapter.old.state maker.old) (K.seen out.old) (K.seen out.new)) }
 {
     for _ in 0..steps {
-        let Some(action) = fair.next_fair(adapter) else {
+        let Some(action) = maker.next(adapter) else {
             return put(out, b"end quiet\n");
         };
+        if keep {
+            keep_action(made, action)?;
+        }
         let Some(shown) = adapter.step(action) else {
             unreachable!()
         };
@@ -138,40 +208,61 @@ fn open_with(alloc: Global, image: Image, messages: Messages) -> Result<Adapter,
     }
 }
 
-/// Runs an image with messages by the fair rules, and puts the lines of its events and an end line.
-pub fn run_image_fairly<K: Sink>(
-    alloc: Global,
-    image: Image,
-    words: &[MessageWord<'_>],
-    steps: u64,
-    out: &mut K,
-) -> Result<(), Status>
-    requires { steps ≤ MOST_STEPS }
-    ensures stays { FaultsStay (K.seen out.old) (K.seen out.new) }
-    ensures ran { FairRan image (map message_view words.now) steps (K.seen out.old) (K.seen out.new)
-        (status_of result) }
-{
-    let messages = messages_of(alloc, image.receives.as_slice().len(), words)?;
-    let mut adapter = open_with(alloc, image, messages)?;
-    let mut fair = Fair::new(alloc, &adapter)?;
-    run_fair(&mut adapter, &mut fair, steps, out)
-}
-
-/// Runs an image with messages under a schedule, and puts the lines of its events and an end line.
+/// Runs an image with messages under the text of a schedule, and puts the lines of its events and an
+/// end line.
 pub fn run_image<K: Sink>(
     alloc: Global,
     image: Image,
-    words: &[MessageWord<'_>],
-    lines: &[Numbered],
+    words: &[MessageWord],
+    text: &[u8],
     out: &mut K,
 ) -> Result<(), Status>
-    requires { length lines.now < 2 ^ 61 }
+    requires { length text.now < 2 ^ 60 }
     ensures stays { FaultsStay (K.seen out.old) (K.seen out.new) }
-    ensures ran { ImageRan image (map message_view words.now) lines.now (K.seen out.old) (K.seen out.new)
+    ensures ran { ImageRan image (map message_view words.now) text.now (K.seen out.old) (K.seen out.new)
         (status_of result) }
 {
     let messages = messages_of(alloc, image.receives.as_slice().len(), words)?;
     let mut adapter = open_with(alloc, image, messages)?;
-    run(&mut adapter, lines, out)?;
+    run(&mut adapter, text, out)?;
     put(out, b"end schedule\n")
+}
+
+/// Runs an image with messages by a plan that makes the actions, puts the lines of its events and an
+/// end line, and answers the actions where they are to be kept.
+pub fn run_image_made<K: Sink>(
+    alloc: Global,
+    image: Image,
+    words: &[MessageWord],
+    plan: &Plan,
+    keep: bool,
+    out: &mut K,
+) -> Result<Vec<Action>, Status>
+    requires makes { MakesActions (plan_view plan.now) }
+    requires few { IsFew (plan_view plan.now) }
+    ensures stays { FaultsStay (K.seen out.old) (K.seen out.new) }
+    ensures whole { OnOk result (MadeWhole image (map message_view words.now) (plan_view plan.now) (K.seen out.old) (K.seen out.new)) }
+    ensures stopped { IfErr result (MadeStopped image (map message_view words.now) (plan_view plan.now) (K.seen out.old) (K.seen out.new)) }
+    ensures kept { IfOk result (λ v. keep ≡ true
+        → v.items ≡ planned (plan_view plan.now) (opened_with image (map message_view words.now))) }
+{
+    let messages = messages_of(alloc, image.receives.as_slice().len(), words)?;
+    let mut adapter = open_with(alloc, image, messages)?;
+    let steps = steps_of(plan);
+    let Some(mut maker) = maker_of(alloc, plan, &adapter)? else {
+        unreachable!()
+    };
+    let mut made = Vec::new(alloc);
+    run_made(&mut adapter, &mut maker, steps, keep, &mut made, out)?;
+    Ok(made)
+}
+
+/// How many steps a plan may make.
+fn steps_of(plan: &Plan) -> u64
+    ensures { result ≡ steps_asked (plan_view plan.now) }
+{
+    match plan {
+        Plan::Schedule { .. } => 0,
+        Plan::Fair { steps } | Plan::Shuffle { steps, .. } => *steps,
+    }
 }

@@ -42,6 +42,8 @@ pub enum MessageFault {
 pub enum Status {
     /// All was done.
     Done,
+    /// The words are no command.
+    Words,
     /// A file could not be read.
     ReadFailed,
     /// There is no such file to read.
@@ -58,6 +60,8 @@ pub enum Status {
     Image(ImageFault),
     /// Want of memory.
     Memory,
+    /// This line of the schedule is bad.
+    Schedule { line: u64 },
     /// The action of this line of the schedule isn't possible.
     Step { line: u64 },
     /// The messages can't be given to the chains.
@@ -83,6 +87,7 @@ pub fn status_code(s: &Status) -> u8
 {
     match s {
         Status::Done => 0,
+        Status::Words => 2,
         Status::ReadFailed => 3,
         Status::WriteFailed => 4,
         Status::Long { .. } => 5,
@@ -90,6 +95,7 @@ pub fn status_code(s: &Status) -> u8
         Status::Program { .. } => 7,
         Status::Image(_) => 8,
         Status::Memory => 9,
+        Status::Schedule { .. } => 10,
         Status::Step { .. } => 11,
         Status::Message(_) => 12,
         Status::NotBuilt => 13,
@@ -194,6 +200,7 @@ pub fn status_line(s: &Status, buf: &mut [u8; 128]) -> usize
 {
     match s {
         Status::Done => 0,
+        Status::Words => put_text(&mut buf[..], 0, b"redn: words refused\n"),
         Status::ReadFailed => put_text(&mut buf[..], 0, b"redn: read failed\n"),
         Status::WriteFailed => put_text(&mut buf[..], 0, b"redn: write failed\n"),
         Status::Long { limit, .. } => {
@@ -211,6 +218,9 @@ pub fn status_line(s: &Status, buf: &mut [u8; 128]) -> usize
         Status::Program { rule, at, .. } => put_rule(buf, *rule, *at),
         Status::Image(fault) => put_image(buf, *fault),
         Status::Memory => put_text(&mut buf[..], 0, b"redn: out of memory\n"),
+        Status::Schedule { line } => {
+            put_around(buf, b"redn: schedule refused: line ", *line, b"\n")
+        }
         Status::Step { line } => {
             put_around(buf, b"redn: step not possible: line ", *line, b"\n")
         }

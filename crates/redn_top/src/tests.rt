@@ -4,6 +4,7 @@ mod fair;
 mod graphs;
 mod images;
 mod listings;
+mod schedules;
 
 use crate::status::{ImageFault, MessageFault, Status, TextFault, status_code, status_line};
 use crate::top::redn;
@@ -244,7 +245,7 @@ fn a_missing_file_leaves_all_as_it_was(rt: HostRuntime) -> Result<(), Fail> {
 #[test]
 fn a_source_is_refused_in_this_order(rt: HostRuntime) -> Result<(), Fail> {
     let alloc = rt.alloc();
-    let sources: [(&[u8], &[u8], Status); 6] = [
+    let sources: [(&[u8], &[u8], Status); 4] = [
         (
             b"chain echo { arg k; reply k }",
             b"x",
@@ -265,8 +266,6 @@ fn a_source_is_refused_in_this_order(rt: HostRuntime) -> Result<(), Fail> {
             b"d 0",
             Status::NotBuilt,
         ),
-        (ECHO, b"d 0\nx\n", Status::NotBuilt),
-        (ECHO, b"d 00", Status::NotBuilt),
     ];
     for (source, schedule, status) in sources {
         let outcome = go(alloc, source, schedule, MESSAGE)?;
@@ -278,21 +277,52 @@ fn a_source_is_refused_in_this_order(rt: HostRuntime) -> Result<(), Fail> {
 }
 
 #[test]
-fn other_words_are_not_built(rt: HostRuntime) -> Result<(), Fail> {
+fn other_words_are_refused(rt: HostRuntime) -> Result<(), Fail> {
     let alloc = rt.alloc();
-    let refused: [&[&str]; 15] = [
+    let refused: [&[&str]; 32] = [
         &[],
+        &["list", "e.redn"],
         &["check"],
+        &["check", ""],
         &["check", "-e.redn"],
+        &["check", "--help"],
+        &["check", "--", "e.redn"],
         &["check", "e.redn", "e.redn"],
-        &["run", "e.redn", "e.img", "--schedule", "s.txt", MESSAGE],
-        &["run", "e.img", "--schedule"],
+        &["check", "e.redn", "--fair", "1"],
         &["compile", "e.redn"],
-        &["go", "", "e.img", "--schedule", "s.txt", MESSAGE],
-        &["go", "e.redn", "e.img", "--fair", "007", MESSAGE],
-        &["go", "e.redn", "e.img", "--fair", "4000001", MESSAGE],
-        &["go", "e.redn", "e.img", "--fair", MESSAGE],
-        &["go", "e.redn", "e.img", "--shuffle", "1", MESSAGE],
+        &["gen", "5"],
+        &["gen", "01", "e.img"],
+        &["gen", "4294967296", "e.img"],
+        &["run", "e.img"],
+        &["run", "--fair", "1"],
+        &["run", "e.img", "--fair", "1", "--fair", "2"],
+        &["run", "e.img", "--fair", "1", "--schedule", "s.txt"],
+        &["run", "e.img", "--fair=1"],
+        &["run", "e.img", "--fair", "-1"],
+        &["run", "e.img", "--fair"],
+        &["run", "e.img", "--fair", "007"],
+        &["run", "e.img", "--fair", "4000001"],
+        &["run", "e.img", "--fair", "500001", "--record", "r.txt"],
+        &["run", "e.img", "--steps", "5"],
+        &["run", "e.img", "--fair", "5", "--steps", "5"],
+        &["run", "e.img", "--shuffle", "1"],
+        &[
+            "run",
+            "e.img",
+            "--shuffle",
+            "18446744073709551616",
+            "--steps",
+            "5",
+        ],
+        &[
+            "go",
+            "e.redn",
+            "e.img",
+            "--schedule",
+            "s.txt",
+            "--record",
+            "r.txt",
+        ],
         &["go", "e.redn", "e.img", "--schedule", "s.txt", "00=00"],
         &["go", "e.redn", "e.img", "--schedule", "s.txt", "0"],
         &[
@@ -303,14 +333,46 @@ fn other_words_are_not_built(rt: HostRuntime) -> Result<(), Fail> {
             "s.txt",
             "4294967296=00",
         ],
+        &["go", "", "e.img", "--schedule", "s.txt", MESSAGE],
     ];
     for words in refused {
         let mut store = MemStore::new(alloc, Vec::new(alloc));
         store.add("e.redn", ECHO)?;
         store.add("s.txt", IN_ORDER)?;
         let outcome = with_words(alloc, words, &mut store, &[])?;
-        assert_eq!(rt; outcome.status, Status::NotBuilt, "{words:?}");
+        assert_eq!(rt; outcome.status, Status::Words, "{words:?}");
     }
+    Ok(())
+}
+
+#[test]
+fn options_stand_anywhere_behind_the_verb(rt: HostRuntime) -> Result<(), Fail> {
+    let alloc = rt.alloc();
+    let orders: [&[&str]; 3] = [
+        &["go", "--fair", "1000", "e.redn", "e.img", MESSAGE],
+        &["go", "e.redn", "--fair", "1000", "e.img", MESSAGE],
+        &["go", "e.redn", "e.img", MESSAGE, "--fair", "1000"],
+    ];
+    for words in orders {
+        let mut store = MemStore::new(alloc, Vec::new(alloc));
+        store.add("e.redn", ECHO)?;
+        let outcome = with_words(alloc, words, &mut store, &[])?;
+        assert_eq!(rt; outcome.status, Status::Done, "{words:?}");
+        assert_eq!(rt;
+            outcome.printed.as_slice(),
+            b"set 0 0 42\nreply 0 42\nend quiet\n".as_slice()
+        );
+    }
+    Ok(())
+}
+
+#[test]
+fn a_generated_file_is_not_built(rt: HostRuntime) -> Result<(), Fail> {
+    let alloc = rt.alloc();
+    let mut store = MemStore::new(alloc, Vec::new(alloc));
+    let outcome = with_words(alloc, &["gen", "5", "e.img"], &mut store, &[])?;
+    assert_eq!(rt; outcome.status, Status::NotBuilt);
+    assert_eq!(rt; outcome.image, None);
     Ok(())
 }
 
@@ -512,7 +574,7 @@ fn a_source_above_its_limit_is_too_long(rt: HostRuntime) -> Result<(), Fail> {
 
 #[test]
 fn each_status_has_its_code_and_its_line(rt: HostRuntime) -> Result<(), Fail> {
-    let table: [(Status, u8, &[u8]); 21] = [
+    let table: [(Status, u8, &[u8]); 23] = [
         (Status::Done, 0, b""),
         (Status::ReadFailed, 3, b"redn: read failed\n"),
         (Status::WriteFailed, 4, b"redn: write failed\n"),
@@ -600,6 +662,12 @@ fn each_status_has_its_code_and_its_line(rt: HostRuntime) -> Result<(), Fail> {
             }),
             12,
             b"redn: message refused: chain 0 has 1 bytes, wants 8\n",
+        ),
+        (Status::Words, 2, b"redn: words refused\n"),
+        (
+            Status::Schedule { line: 2 },
+            10,
+            b"redn: schedule refused: line 2\n",
         ),
         (
             Status::Step { line: u64::MAX },

@@ -1,29 +1,48 @@
 //! The commands.
 
-ghost use Rattle.std.specs.Prelude.{◌≡◌, ◌≤◌, List, ℕ, Some, IfErr, OnOk, map, string_bytes};
+ghost use Rattle.std.specs.Prelude.{◌≡◌, ◌≤◌, List, ℕ, None, Some, IfErr, OnOk, map, string_bytes};
 ghost use Rattle.std.specs.Option.{option_map};
 ghost use Rattle.redn_outside.specs.Files.{Files, OthersStay, with_file};
+ghost use Rattle.redn_outside.specs.Seen.{KeepsOthers};
 ghost use Rattle.redn_image.specs.Spelling.{Spells};
+ghost use Rattle.redn_command.specs.Words.{Command as CommandValue, Check, Compile, Run, Go, Disasm, Assemble, IsCommand, command_view, message_view, plan_view};
 ghost use Rattle.redn_top.specs.StatusText.{code_of};
 ghost use Rattle.redn_top.specs.declared.status.Status.{Status};
-ghost use Rattle.redn_top.specs.Words.{Command as CommandValue, Check, Compile, Run, Go, Disasm, Assemble, HasNames, IsCommand, IsRun, by_fair, by_schedule, command_view, message_view, run_view};
+ghost use Rattle.redn_top.specs.declared.status.Status.TheVariants.{Words};
 ghost use Rattle.redn_top.specs.Reasons.{Input, IsInput, First, NoneHolds, reasons};
-ghost use Rattle.redn_top.specs.Answers.{Ends, IfSpoken, IsFinish, IsFinishOrWant, IsNotBuilt, NoneFailed, Spares, Stayed, status_of};
-ghost use Rattle.redn_top.specs.Refusals.{WriteRefused};
+ghost use Rattle.redn_top.specs.Answers.{Ends, IfSpoken, IsFinish, IsFinishOrWant, IsNoCommand, NoneFailed, OthersStayThan, Spares, Stayed, status_of};
+ghost use Rattle.redn_top.specs.Refusals.{CanRun, HasText, IsRunnable, RunEnds, WriteRefused, run_of};
 
-use crate::limits::{FILE_LIMIT, IMAGE_LIMIT, LISTING_LIMIT, MOST_STEPS};
-use crate::reading::{
-    first_program, image_in, image_of_listing, plan_go, plan_run, read_file, read_two,
-};
-use crate::run::{put, put_lines, run_image, run_image_fairly};
+use crate::limits::{FILE_LIMIT, IMAGE_LIMIT, LISTING_LIMIT};
+use crate::reading::{first_program, image_in, image_of_listing, read_file, read_run};
+use crate::run::{put, put_lines, run_image, run_image_made};
 use crate::source::checked_text;
 use crate::status::Status;
-use crate::words::{Command, MessageWord, PlanWords, RunWords, WordsFault, command_of};
+use redn_command::{Command, MessageWord, Plan, WordsFault, command_of};
 use redn_compile::compile;
 use redn_disasm::listing;
 use redn_image::{Image, write_image};
 use redn_outside::{Sink, Store, WriteFault};
+use redn_sched::schedule_text;
 use std::alloc::Global;
+
+/// Writes bytes under a name.
+fn write_file<S: Store>(
+    alloc: Global,
+    name: &str,
+    bytes: &[u8],
+    store: &mut S,
+) -> Result<(), Status>
+    ensures stays { KeepsOthers name.now (S.seen store.old) (S.seen store.new) }
+    ensures wrote { OnOk result ((S.seen store.new).told ≡ option_map (with_file name.now bytes.now) (S.seen store.old).told) }
+    ensures refused { IfErr result (WriteRefused (S.seen store.old) (S.seen store.new)) }
+{
+    match store.write(alloc, name, bytes) {
+        Ok(()) => Ok(()),
+        Err(WriteFault::Failed) => Err(Status::WriteFailed),
+        Err(WriteFault::Memory) => Err(Status::Memory),
+    }
+}
 
 /// Writes the bytes of an image under a name.
 fn write_out<S: Store>(
@@ -33,16 +52,43 @@ fn write_out<S: Store>(
     store: &mut S,
 ) -> Result<(), Status>
     ensures spares { OthersStay name.now (S.seen store.old).told (S.seen store.new).told }
+    ensures count { (S.seen store.old).counts.write_faults ≤ (S.seen store.new).counts.write_faults }
+    ensures reliable { (S.seen store.new).reliable ≡ (S.seen store.old).reliable }
     ensures wrote { OnOk result ((bytes : List ℕ) × Spells bytes image.now ×
         ((S.seen store.new).told ≡ option_map (with_file name.now bytes) (S.seen store.old).told)) }
     ensures refused { IfErr result (WriteRefused (S.seen store.old) (S.seen store.new)) }
 {
     let bytes = write_image(alloc, image)?;
-    match store.write(alloc, name, &bytes) {
-        Ok(()) => Ok(()),
-        Err(WriteFault::Failed) => Err(Status::WriteFailed),
-        Err(WriteFault::Memory) => Err(Status::Memory),
+    write_file(alloc, name, &bytes, store)
+}
+
+/// Runs an image by its plan, and writes the record of the steps made where it is asked for.
+fn run_planned<S: Store, K: Sink>(
+    alloc: Global,
+    image: Image,
+    plan: &Plan,
+    keep: &Option<String>,
+    messages: &[MessageWord],
+    schedule: Option<Vec<u8>>,
+    store: &mut S,
+    out: &mut K,
+) -> Result<(), Status>
+    requires runs { IsRunnable (plan_view plan.now) (option_map string_bytes keep.now) }
+    requires text { HasText (plan_view plan.now) (option_map (λ v. v.items) schedule) }
+    ensures ran { RunEnds (option_map (λ v. v.items) schedule)
+        (run_of (plan_view plan.now) (option_map string_bytes keep.now) (map message_view messages.now)) image
+        (S.seen store.old) (S.seen store.new) (K.seen out.old) (K.seen out.new) (status_of result) }
+    ensures spares { OthersStayThan None (option_map string_bytes keep.now) (S.seen store.old) (S.seen store.new) }
+{
+    if let Some(text) = schedule {
+        return run_image(alloc, image, messages, &text, out);
     }
+    let made = run_image_made(alloc, image, messages, plan, keep.is_some(), out)?;
+    let Some(name) = keep else {
+        return Ok(());
+    };
+    let text = schedule_text(alloc, &made)?;
+    write_file(alloc, name.as_str(), &text, store)
 }
 
 /// Prints the canonical text of a source file.
@@ -79,88 +125,49 @@ fn run_compile<S: Store, K: Sink>(
     write_out(alloc, name, &image, store)
 }
 
-/// Runs an image under a schedule.
+/// Runs an image.
 fn run_run<S: Store, K: Sink>(
     alloc: Global,
     name: &str,
-    schedule: &str,
-    messages: &[MessageWord<'_>],
+    plan: &Plan,
+    keep: &Option<String>,
+    messages: &[MessageWord],
     store: &mut S,
     out: &mut K,
 ) -> Result<(), Status>
-    ensures ends { Ends (Run name.now (by_schedule schedule.now (map message_view messages.now)))
+    requires { IsRunnable (plan_view plan.now) (option_map string_bytes keep.now) }
+    ensures ends { Ends (Run name.now (run_of (plan_view plan.now) (option_map string_bytes keep.now) (map message_view messages.now)))
         (S.seen store.old) (S.seen store.new) (K.seen out.old) (K.seen out.new) (status_of result) }
-    ensures spares { Spares (Run name.now (by_schedule schedule.now (map message_view messages.now)))
+    ensures spares { Spares (Run name.now (run_of (plan_view plan.now) (option_map string_bytes keep.now) (map message_view messages.now)))
         (S.seen store.old) (S.seen store.new) }
 {
-    let (bytes, schedule) = read_two(alloc, store, name, IMAGE_LIMIT, schedule)?;
-    let (image, lines) = plan_run(alloc, &bytes, &schedule)?;
-    run_image(alloc, image, messages, &lines, out)
-}
-
-/// Runs an image by the fair rules.
-fn run_fairly<S: Store, K: Sink>(
-    alloc: Global,
-    name: &str,
-    steps: u64,
-    messages: &[MessageWord<'_>],
-    store: &mut S,
-    out: &mut K,
-) -> Result<(), Status>
-    requires { steps ≤ MOST_STEPS }
-    ensures ends { Ends (Run name.now (by_fair steps (map message_view messages.now)))
-        (S.seen store.old) (S.seen store.new) (K.seen out.old) (K.seen out.new) (status_of result) }
-    ensures spares { Spares (Run name.now (by_fair steps (map message_view messages.now)))
-        (S.seen store.old) (S.seen store.new) }
-{
-    let bytes = read_file(alloc, store, name, IMAGE_LIMIT)?;
+    let (bytes, schedule) = read_run(alloc, store, name, IMAGE_LIMIT, plan)?;
     let image = image_in(alloc, &bytes)?;
-    run_image_fairly(alloc, image, messages, steps, out)
+    run_planned(alloc, image, plan, keep, messages, schedule, store, out)
 }
 
-/// Writes the image of a source file, and runs it under a schedule.
+/// Writes the image of a source file, and runs it.
 fn run_go<S: Store, K: Sink>(
     alloc: Global,
     file: &str,
     name: &str,
-    schedule: &str,
-    messages: &[MessageWord<'_>],
+    plan: &Plan,
+    keep: &Option<String>,
+    messages: &[MessageWord],
     store: &mut S,
     out: &mut K,
 ) -> Result<(), Status>
-    ensures ends { Ends (Go file.now name.now (by_schedule schedule.now (map message_view messages.now)))
+    requires { IsRunnable (plan_view plan.now) (option_map string_bytes keep.now) }
+    ensures ends { Ends (Go file.now name.now (run_of (plan_view plan.now) (option_map string_bytes keep.now) (map message_view messages.now)))
         (S.seen store.old) (S.seen store.new) (K.seen out.old) (K.seen out.new) (status_of result) }
-    ensures spares { Spares (Go file.now name.now (by_schedule schedule.now (map message_view messages.now)))
+    ensures spares { Spares (Go file.now name.now (run_of (plan_view plan.now) (option_map string_bytes keep.now) (map message_view messages.now)))
         (S.seen store.old) (S.seen store.new) }
 {
-    let (source, schedule) = read_two(alloc, store, file, FILE_LIMIT, schedule)?;
-    let (program, lines) = plan_go(alloc, &source, &schedule)?;
-    let image = compile(alloc, &program)?;
-    write_out(alloc, name, &image, store)?;
-    run_image(alloc, image, messages, &lines, out)
-}
-
-/// Writes the image of a source file, and runs it by the fair rules.
-fn go_fairly<S: Store, K: Sink>(
-    alloc: Global,
-    file: &str,
-    name: &str,
-    steps: u64,
-    messages: &[MessageWord<'_>],
-    store: &mut S,
-    out: &mut K,
-) -> Result<(), Status>
-    requires { steps ≤ MOST_STEPS }
-    ensures ends { Ends (Go file.now name.now (by_fair steps (map message_view messages.now)))
-        (S.seen store.old) (S.seen store.new) (K.seen out.old) (K.seen out.new) (status_of result) }
-    ensures spares { Spares (Go file.now name.now (by_fair steps (map message_view messages.now)))
-        (S.seen store.old) (S.seen store.new) }
-{
-    let source = read_file(alloc, store, file, FILE_LIMIT)?;
+    let (source, schedule) = read_run(alloc, store, file, FILE_LIMIT, plan)?;
     let program = first_program(alloc, &source)?;
     let image = compile(alloc, &program)?;
     write_out(alloc, name, &image, store)?;
-    run_image_fairly(alloc, image, messages, steps, out)
+    run_planned(alloc, image, plan, keep, messages, schedule, store, out)
 }
 
 /// Prints the listing of an image.
@@ -207,72 +214,46 @@ fn finished(ended: Result<(), Status>) -> Status
     }
 }
 
-/// Runs an image by its plan.
-fn run_by_plan<S: Store, K: Sink>(
-    alloc: Global,
-    image: &str,
-    run: &RunWords<'_>,
-    store: &mut S,
-    out: &mut K,
-) -> Result<(), Status>
-    requires { IsRun (run_view run.now) }
-    ensures ends { Ends (Run image.now (run_view run.now)) (S.seen store.old) (S.seen store.new)
-        (K.seen out.old) (K.seen out.new) (status_of result) }
-    ensures spares { Spares (Run image.now (run_view run.now)) (S.seen store.old) (S.seen store.new) }
-{
-    match run.plan {
-        PlanWords::Schedule { file } => run_run(alloc, image, file, &run.messages, store, out),
-        PlanWords::Fair { steps } => run_fairly(alloc, image, steps, &run.messages, store, out),
-    }
-}
-
-/// Writes the image of a source file, and runs it by its plan.
-fn go_by_plan<S: Store, K: Sink>(
-    alloc: Global,
-    file: &str,
-    name: &str,
-    run: &RunWords<'_>,
-    store: &mut S,
-    out: &mut K,
-) -> Result<(), Status>
-    requires { IsRun (run_view run.now) }
-    ensures ends { Ends (Go file.now name.now (run_view run.now)) (S.seen store.old) (S.seen store.new)
-        (K.seen out.old) (K.seen out.new) (status_of result) }
-    ensures spares { Spares (Go file.now name.now (run_view run.now)) (S.seen store.old) (S.seen store.new) }
-{
-    match run.plan {
-        PlanWords::Schedule { file: schedule } => run_go(
-            alloc,
-            file,
-            name,
-            schedule,
-            &run.messages,
-            store,
-            out,
-        ),
-        PlanWords::Fair { steps } => go_fairly(alloc, file, name, steps, &run.messages, store, out),
-    }
-}
-
 /// Runs a command.
-fn obey<S: Store, K: Sink>(
-    alloc: Global,
-    command: &Command<'_>,
-    store: &mut S,
-    out: &mut K,
-) -> Status
-    requires { HasNames (command_view command.now) }
+#[tactic(auto, using(crate::proofs::Endings::gen_ends))]
+fn obey<S: Store, K: Sink>(alloc: Global, command: &Command, store: &mut S, out: &mut K) -> Status
+    requires { CanRun (command_view command.now) }
     ensures ends { Ends (command_view command.now) (S.seen store.old) (S.seen store.new)
         (K.seen out.old) (K.seen out.new) result }
     ensures spares { Spares (command_view command.now) (S.seen store.old) (S.seen store.new) }
 {
     finished(match command {
-        Command::Check { file } => run_check(alloc, file, store, out),
-        Command::Compile { file, image } => run_compile(alloc, file, image, store, out),
-        Command::Run { image, run } => run_by_plan(alloc, image, run, store, out),
-        Command::Go { file, image, run } => go_by_plan(alloc, file, image, run, store, out),
-        Command::Disasm { image } => run_disasm(alloc, image, store, out),
-        Command::Assemble { listing, image } => run_assemble(alloc, listing, image, store, out),
+        Command::Check { file } => run_check(alloc, file.as_str(), store, out),
+        Command::Compile { file, image } => {
+            run_compile(alloc, file.as_str(), image.as_str(), store, out)
+        }
+        Command::Run {
+            image,
+            plan,
+            keep,
+            messages,
+        } => run_run(alloc, image.as_str(), plan, keep, messages, store, out),
+        Command::Go {
+            file,
+            image,
+            plan,
+            keep,
+            messages,
+        } => run_go(
+            alloc,
+            file.as_str(),
+            image.as_str(),
+            plan,
+            keep,
+            messages,
+            store,
+            out,
+        ),
+        Command::Disasm { image } => run_disasm(alloc, image.as_str(), store, out),
+        Command::Assemble { listing, image } => {
+            run_assemble(alloc, listing.as_str(), image.as_str(), store, out)
+        }
+        Command::Gen { .. } => Err(Status::NotBuilt),
     })
 }
 
@@ -291,7 +272,8 @@ pub fn redn<S: Store, K: Sink>(
 
     // Other words do nothing.
     ensures no_command { ((c : CommandValue) → ¬ IsCommand (map string_bytes words.now.items) c)
-        → IsNotBuilt result × Stayed (S.seen store.old) (S.seen store.new) (K.seen out.old) (K.seen out.new) }
+        → IsNoCommand result × Stayed (S.seen store.old) (S.seen store.new) (K.seen out.old) (K.seen out.new) }
+    ensures words { result ≡ Words → (c : CommandValue) → ¬ IsCommand (map string_bytes words.now.items) c }
 
     // Where the store tells what it holds: a reason that holds is told, and where none does the
     // command does its work, unless a call fails or memory is wanting.
@@ -311,7 +293,7 @@ pub fn redn<S: Store, K: Sink>(
 {
     match command_of(alloc, words) {
         Ok(command) => obey(alloc, &command, store, out),
-        Err(WordsFault::Refused) => Status::NotBuilt,
+        Err(WordsFault::Refused) => Status::Words,
         Err(WordsFault::Memory) => Status::Memory,
     }
 }

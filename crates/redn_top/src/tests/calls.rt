@@ -4,8 +4,9 @@ ghost use Rattle.std.specs.Prelude.{◌≡◌, length, IfOk};
 
 use crate::source::read_program;
 use crate::tests::ECHO;
+use redn_block::block_ring;
 use redn_cas::{probe_template, test48_template, test64_template};
-use redn_graph::graph;
+use redn_graph::{Block, End, graph};
 use redn_kernel::{Cell, Kernel, SourceAnswer, SourceState, StartFault, Word};
 use redn_lookup::lookup_core;
 use redn_move::{
@@ -17,6 +18,7 @@ use redn_segment::{RingBuilder, Site, copy, segment};
 use redn_walk::walk_core;
 use redn_words::{Class, Kind, Messages, Need, Obs, Opcode, Region, Request, Spot};
 use redn_wqe::{Field, WRITE, class, decode, encode, field_at, is_signalled, opcode};
+use sqlite_items::Items;
 use std::alloc::Global;
 use std::test::Fail;
 
@@ -109,6 +111,19 @@ fn segments_are_appended(rt: HostRuntime) -> Result<(), Fail> {
     ring.push_segments(Vec::new(alloc))?;
     let ring = ring.finish();
     assert_eq!(rt; ring.segments.len(), 1);
+    Ok(())
+}
+
+#[test]
+fn a_block_has_its_ring(rt: HostRuntime) -> Result<(), Fail> {
+    let alloc = rt.alloc();
+    let block = Block {
+        instrs: Items::new(alloc),
+        end: End::Jump { to: 1 },
+    };
+    let ring = block_ring(alloc, 2, 3, &block)?;
+    assert_eq!(rt; ring.ring, 3);
+    assert_eq!(rt; ring.segments.len(), 2);
     Ok(())
 }
 

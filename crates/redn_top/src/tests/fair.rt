@@ -21,7 +21,7 @@ const UNDEFINED: u16 = 9;
 /// The receive counter of chain 1.
 const RECEIVED_BY_1: u64 = 65_537;
 
-fn ring(domain: u16, base: u64, slots: u64, limit: u64) -> QueueRow {
+pub fn ring(domain: u16, base: u64, slots: u64, limit: u64) -> QueueRow {
     QueueRow {
         domain,
         managed: true,
@@ -31,7 +31,7 @@ fn ring(domain: u16, base: u64, slots: u64, limit: u64) -> QueueRow {
     }
 }
 
-fn request(op: u16, first: u64, second: u64) -> [u8; 64] {
+pub fn request(op: u16, first: u64, second: u64) -> [u8; 64] {
     encode(&Request {
         op,
         id: 0,
@@ -62,7 +62,7 @@ fn message(alloc: Global, there: bool) -> Result<Option<Vec<u8>>, AllocError> {
 }
 
 /// An image of two chains, each with a message or none, with these queues, and four slots.
-fn opened(
+pub fn opened(
     alloc: Global,
     rows: &[QueueRow],
     requests: &[[u8; 64]; 4],

@@ -15,7 +15,7 @@ pub returns-in_default-clause-refused : goal.returns-in_default-clause-refused
 returns-in_default-clause-refused c =
     let list = c.loop-word.list in
     let long = as_many h list.items c.args.chains _ c.loop-word.invariant.0 in
-    no_chain_here c.args.chains c.args.words.now c.loop-word.word-index _ c.loop-word-test.true c.loop-word.invariant.1
+    no_chain_here c.args.chains c.args.words.now c.loop-word.word-index c.word-item.result c.word-item.is c.loop-word-test.true c.loop-word.invariant.1
     (λ inside. absurd (let e = c.in_default.ensures.variant.1 (omega (arith, inside, long, list.ok)) in cc))
 
 pub returns-then-is_some-clause-refused : goal.returns-then-is_some-clause-refused
@@ -24,7 +24,7 @@ returns-then-is_some-clause-refused c =
     let long = as_many h list.items c.args.chains _ c.loop-word.invariant.0 in
     let low = c.in-Some.ensures.variant.0 refl in
     let held = ap is_some (sym c.in-Some.ensures.value) ∙ sym c.is_some.ensures ∙ c.if-is_some.true in
-    twice_here c.args.chains c.args.words.now c.loop-word.word-index _ c.loop-word-test.true c.loop-word.invariant.1 (omega (arith, low, long, list.ok))
+    twice_here c.args.chains c.args.words.now c.loop-word.word-index c.word-item.result c.word-item.is c.loop-word-test.true c.loop-word.invariant.1 (omega (arith, low, long, list.ok))
     (sym (seen_at h list.items c.args.chains _ c.loop-word.invariant.0 _ _ (omega (arith, low, list.ok))) ∙ held)
 
 pub returns-in_err-message_bytes-clause-refused : goal.returns-in_err-message_bytes-clause-refused
@@ -35,7 +35,7 @@ returns-in_err-message_bytes-clause-refused c =
     let held = ap is_some (sym c.in-Some.ensures.value) ∙ sym c.is_some.ensures ∙ c.if-is_some.false in
     let p = err_from_is_err_and c.from_residual-in_err-message_bytes.result c.from_residual-in_err-message_bytes.ensures.1 in
     rw (p.1, p.2)
-    (digits_refused_here c.args.chains c.args.words.now c.loop-word.word-index _ c.loop-word-test.true c.loop-word.invariant.1 (omega (arith, low, long, list.ok))
+    (digits_refused_here c.args.chains c.args.words.now c.loop-word.word-index c.word-item.result c.word-item.is c.loop-word-test.true c.loop-word.invariant.1 (omega (arith, low, long, list.ok))
     (sym (seen_at h list.items c.args.chains _ c.loop-word.invariant.0 _ _ (omega (arith, low, list.ok))) ∙ held) c.in_err-message_bytes.field-0.0 c.in_err-message_bytes.ensures.refused)
 
 pub loop-word-preserved : goal.loop-word-preserved
@@ -44,5 +44,5 @@ loop-word-preserved c =
     let long = as_many h list.items c.args.chains _ c.loop-word.invariant.0 in
     let low = c.in-Some.ensures.variant.0 refl in
     let held = ap is_some (sym c.in-Some.ensures.value) ∙ sym c.is_some.ensures ∙ c.if-is_some.false in
-    one_word_more c.args.chains c.args.words.now c.loop-word.word-index _ c.loop-word-test.true c.loop-word.invariant.1 (omega (arith, low, long, list.ok))
+    one_word_more c.args.chains c.args.words.now c.loop-word.word-index c.word-item.result c.word-item.is c.loop-word-test.true c.loop-word.invariant.1 (omega (arith, low, long, list.ok))
     (sym (seen_at h list.items c.args.chains _ c.loop-word.invariant.0 _ _ (omega (arith, low, list.ok))) ∙ held) h list.items _ c.loop-word.invariant.0 c.in_ok-message_bytes.ensures.bytes

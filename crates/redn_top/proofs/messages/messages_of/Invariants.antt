@@ -1,6 +1,6 @@
 use Rattle.std.proofs.Common.{◌≡◌, [], map, take}
 use Rattle.std.specs.Option.{option_map}
-use Rattle.redn_top.specs.Words.{message_view}
+use Rattle.redn_command.specs.Words.{message_view}
 use Rattle.redn_top.specs.MessageWords.{messages, word_faults}
 use Rattle.redn_top.proofs.messages.messages_of.Given as goal
 

@@ -1,0 +1,5 @@
+pub mod Parts
+pub mod Taking
+pub mod MessageTexts
+pub mod OneCommand
+mod Worked

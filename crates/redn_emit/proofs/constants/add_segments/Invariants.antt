@@ -1,0 +1,9 @@
+use Rattle.std.proofs.Common.{◌≡◌, take}
+use Rattle.std.specs.List.{flat_map}
+use Rattle.redn_segment.specs.declared.types.Draft.{Draft}
+use Rattle.redn_segment.specs.Building.{drafts_of}
+use Rattle.redn_emit.specs.Layout.{each_once, number_read}
+use Rattle.redn_emit.proofs.constants.add_segments.Given as goal
+
+abbrev pub invariant-loop-segment : goal.invariant-loop-segment
+invariant-loop-segment l = l.seen.keys ≡ each_once l.initial.seen.keys (flat_map (λ (d : Draft). number_read d.local) (drafts_of (take l.segment-index l.segments)))

@@ -1,0 +1,7 @@
+use Rattle.std.proofs.Common.{◌≡◌, take}
+use Rattle.std.specs.List.{flat_map}
+use Rattle.redn_emit.specs.Layout as layout
+use Rattle.redn_emit.proofs.rows.regions_of.Given as goal
+
+abbrev pub invariant-loop-plan : goal.invariant-loop-plan
+invariant-loop-plan l = l.rows.items ≡ flat_map (λ c. layout.chain_rows c l.tables) (take l.plan-index l.plans)

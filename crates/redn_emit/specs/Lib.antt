@@ -1,0 +1,5 @@
+pub mod Layout
+pub mod Placed
+pub mod Kept
+pub mod View
+pub mod Graphs

@@ -1,0 +1,34 @@
+use Rattle.std.proofs.Common.{◌≡◌, ℕ, true, List, map, string_bytes, sym, ap, subst, ◌∙◌}
+use Rattle.std.specs.Prelude.{Option, Some, OnOk, is_some}
+use Rattle.std.specs.Option.{option_map}
+use Rattle.std.proofs.lemmas.Result.{err_from_is_err_and}
+use Rattle.redn_outside.specs.Files.{with_file}
+use Rattle.redn_command.specs.Words.{message_view, plan_view}
+use Rattle.redn_top.specs.Refusals.{HasText}
+use Rattle.redn_top.proofs.Endings.{stopped_ends, record_ends}
+use Rattle.redn_top.proofs.top.run_planned.Goals as goal
+
+pub returns-in_err-made-clause-ran : goal.returns-in_err-made-clause-ran
+returns-in_err-made-clause-ran g c =
+    let plan = plan_view c.args.plan.now in
+    let keep = option_map string_bytes c.args.keep.now in
+    let words = map message_view c.args.messages.now in
+    let has = subst (λ s. HasText plan (option_map (λ v. v.items) s)) c.in_default.is c.requires.text in
+    let p = err_from_is_err_and c.from_residual.result c.from_residual.ensures.1 in
+    rw (p.1, p.2, c.in_default.is) (stopped_ends plan keep words c.args.image has (g.S.Store.seen c.args.store.now) (g.K.Sink.seen c.args.out.now) (g.K.Sink.seen c.run_image_made.new.out) c.in_err-made.field-0.0 c.in_err-made.ensures.stopped)
+
+pub returns-clause-ran : goal.returns-clause-ran
+returns-clause-ran g c =
+    let plan = plan_view c.args.plan.now in
+    let keep = option_map string_bytes c.args.keep.now in
+    let words = map message_view c.args.messages.now in
+    let before = g.S.Store.seen c.args.store.now in
+    let now = g.S.Store.seen c.write_file.new.store in
+    let has = subst (λ s. HasText plan (option_map (λ v. v.items) s)) c.in_default.is c.requires.text in
+    let name = c.as_str.result.now in
+    let made = c.deref-2.result.now in
+    let asked : keep ≡ Some name = ap (option_map string_bytes) c.in-Some-keep.is ∙ ap Some (sym c.as_str.ensures.value) in
+    let yes : c.is_some.result ≡ true = c.is_some.ensures ∙ ap is_some c.in-Some-keep.is in
+    let are = c.deref-2.ensures.value ∙ c.in_ok-made.ensures.kept yes in
+    let wrote = subst (λ (b : List ℕ). OnOk c.write_file.result (now.told ≡ option_map (with_file name b) before.told)) (c.deref-3.ensures.value ∙ c.in_ok-text.ensures.text) c.write_file.ensures.wrote in
+    rw c.in_default.is (record_ends plan keep words c.args.image has before (g.K.Sink.seen c.args.out.now) (g.K.Sink.seen c.run_image_made.new.out) name asked made are c.in_ok-made.ensures.whole now c.write_file.ensures.stays.told c.write_file.result wrote c.write_file.ensures.refused)
