@@ -4,4 +4,7 @@ pub mod Delivery
 pub mod Lands
 pub mod Starts
 pub mod Images
+pub mod Marking
+pub mod Stepping
+pub mod Acting
 mod Worked

@@ -60,7 +60,7 @@ module _ {X : Type 0} (p : X → Bool) where
       not_first true t f e = absurd (true≢false (sym (h y t) ∙ f))
       not_first false t f e = e
 
-some_is : {X : Type 0} (o : Option X) → is_some o ≡ true → (x : X) × (o ≡ Some x)
+pub some_is : {X : Type 0} (o : Option X) → is_some o ≡ true → (x : X) × (o ≡ Some x)
 some_is None e = absurd (false≢true e)
 some_is (Some x) e = (x, refl)
 

@@ -8,6 +8,7 @@ use Rattle.redn_words.specs.States.{Queue, Chain}
 use Rattle.redn_words.specs.Access.{EndsBy}
 use Rattle.redn_adapter.specs.Mails.{pending_bytes}
 use Rattle.redn_adapter.specs.Running.{Running}
+use Rattle.redn_adapter.specs.Busy.{KeepsBusy}
 use Rattle.redn_adapter.specs.declared.adapter.Adapter.TheInside.{Inside}
 
 abbrev pub adapter_view : Inside → Running
@@ -50,3 +51,4 @@ pub record IsAdapter (a : Inside) : Type 0 where
   pub queues : All (IsQueueAt (length a.memory.items) a.steps) a.queues.items
   pub counts : AreFew (length a.chains.items) a.queues.items
   pub places : length a.chains.items ≡ length a.receives.items
+  pub busy : KeepsBusy a.busy (length a.chains.items) a.queues.items

@@ -4,3 +4,4 @@ pub mod Mails
 pub mod ChainView
 pub mod AdapterView
 pub mod Quiet
+pub mod Busy

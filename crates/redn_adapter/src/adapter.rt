@@ -6,10 +6,12 @@ ghost use Rattle.redn_words.specs.Words.{with_bytes_at};
 ghost use Rattle.redn_words.specs.States.{slot_of};
 ghost use Rattle.redn_adapter.specs.Opening.{misfits, opened};
 
+use crate::busy::{first_busy, note};
 use crate::chain::Chain;
 use crate::opening::{OpenFault, first_chains, first_misfit, first_queues, registered};
 use redn_exec::{Landing, land};
 use redn_image::Image;
+use redn_marks::Marks;
 use redn_queue::Queue;
 use redn_region::Regions;
 use redn_words::{
@@ -49,6 +51,7 @@ pub struct Adapter {
     pub(crate) receives: Vec<Receive>,
     pub(crate) memory: Vec<u8>,
     pub(crate) queues: Vec<Queue>,
+    pub(crate) busy: Marks,
     pub(crate) chains: Vec<Chain>,
     pub(crate) steps: u64,
 }
@@ -93,6 +96,7 @@ impl Adapter {
     ghost use Rattle.std.specs.List.{All};
     ghost use Rattle.redn_words.specs.Laws.{row_at};
     ghost use Rattle.redn_adapter.specs.Quiet.{IsQuiet, is_active, has_message};
+    ghost use Rattle.redn_adapter.specs.Busy.{HasActive};
     ghost use Rattle.redn_words.specs.Steps.{possible, after, shown, step, start_possible, deliver_possible, class_of, counter_of, may_start, may_raise, refused_start};
     ghost use Rattle.redn_words.specs.declared.types.Action.TheVariants as act;
     ghost use Rattle.redn_adapter.specs.Running.{stepped, next_of, Runs, HeadIsHeld, HasRoom, aside, raised_after, flown_after, started_after, started_shown, CanStart};
@@ -142,6 +146,13 @@ impl Adapter {
         ensures { option_copied result ≡ row_at self.now.state.queues q }
     {
         Some(self.queues.get(q as usize)?.row())
+    }
+
+    /// Some queues of a chain, in no order. The chain's others have nothing useful to do.
+    pub fn busy(&self, chain: u32) -> &[u32]
+        ensures { HasActive self.now.state chain result.now }
+    {
+        self.busy.of(chain)
     }
 
     /// Whether a chain's message is to come.
@@ -255,7 +266,9 @@ impl Adapter {
         if !can_complete(u) {
             return None;
         }
-        self.queues[queue as usize].complete();
+        let u = &mut self.queues[queue as usize];
+        u.complete();
+        note(&mut self.busy, queue, u);
         self.steps += 1;
         Some(Obs::Nothing)
     }
@@ -326,11 +339,13 @@ pub fn open(alloc: Global, i: Image, ms: Messages) -> Result<Adapter, OpenFault>
     let regions = registered(alloc, regions)?;
     let queues = first_queues(alloc, &rows)?;
     let chains = first_chains(alloc, list)?;
+    let busy = first_busy(alloc, chains.len() as u32, &queues)?;
     Ok(Adapter {
         regions,
         receives,
         memory,
         queues,
+        busy,
         chains,
         steps: 0,
     })

@@ -1,6 +1,7 @@
 #![tactic(auto)]
 
 mod adapter;
+mod busy;
 mod chain;
 mod opening;
 mod starting;

@@ -6,6 +6,7 @@ ghost use Rattle.redn_words.specs.declared.types.Action.TheVariants as act;
 ghost use Rattle.redn_adapter.specs.Running.{stepped, stopped_if, Runs, HeadIsHeld, HasRoom, aside, raised_after, flown_after, started_after, started_shown, CanStart};
 
 use crate::adapter::{Adapter, slot_at};
+use crate::busy::note;
 use redn_queue::Queue;
 use redn_words::{Class, Obs, RECEIVE_BASE, Request};
 use redn_wqe::{class, decode};
@@ -108,7 +109,9 @@ impl Adapter {
         requires few { self.old.steps < 2 ^ 62 }
         ensures { self.new ≡ aside self.old queue stops }
     {
-        pass(&mut self.queues[queue as usize], stops);
+        let u = &mut self.queues[queue as usize];
+        pass(u, stops);
+        note(&mut self.busy, queue, u);
         self.steps += 1;
     }
 
@@ -121,8 +124,12 @@ impl Adapter {
         requires few { self.old.steps < 2 ^ 62 }
         ensures { self.new ≡ raised_after self.old queue number limit }
     {
-        self.queues[queue as usize].take_head();
-        self.queues[number as usize].raise(limit);
+        let u = &mut self.queues[queue as usize];
+        u.take_head();
+        note(&mut self.busy, queue, u);
+        let raised = &mut self.queues[number as usize];
+        raised.raise(limit);
+        note(&mut self.busy, number as u32, raised);
         self.steps += 1;
     }
 

@@ -5,3 +5,4 @@ mod blocks;
 mod words;
 
 pub use blocks::block_ring;
+pub use words::block_words;

@@ -1,10 +1,10 @@
 //! What the types of numbers say of a block: each fits a word. Calls of these do nothing; they are
 //! for contracts.
 
-ghost use Rattle.redn_block.specs.Blocks.{IsWord, InstrWords, EndWords};
+ghost use Rattle.redn_block.specs.Blocks.{IsWord, InstrWords, EndWords, BlockWords};
 ghost use Rattle.std.specs.List.{All};
 
-use redn_graph::{End, Instr};
+use redn_graph::{Block, End, Instr};
 use redn_kernel::Cell;
 
 /// The number of a cell fits a word.
@@ -87,4 +87,20 @@ pub fn end_words(end: &End)
         }
         End::Reply { words } => cells_words(words.as_slice()),
     }
+}
+
+fn instrs_words(instrs: &[Instr])
+    ensures { All InstrWords instrs.now }
+{
+    for instr in instrs {
+        instr_words(instr);
+    }
+}
+
+/// So does each number of a block.
+pub fn block_words(block: &Block)
+    ensures { BlockWords block.now }
+{
+    instrs_words(block.instrs.as_slice());
+    end_words(&block.end);
 }

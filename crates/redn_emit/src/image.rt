@@ -5,13 +5,14 @@ ghost use Rattle.redn_kernel.specs.Program.{IsSound};
 ghost use Rattle.redn_emit.specs.Layout as layout;
 ghost use Rattle.redn_emit.specs.Placed as placed;
 ghost use Rattle.redn_emit.specs.Placed.{IsPlaced};
-ghost use Rattle.redn_emit.specs.Graphs.{AreGraphs};
+ghost use Rattle.redn_emit.specs.Graphs.{AreGraphs, AllHaveWords};
 ghost use Rattle.redn_emit.specs.Kept.{MOST, CanAllBePlaced};
 
 use crate::chain::{ChainPlan, ChainRings, SLOT};
 use crate::memory::memory_of;
 use crate::rows::{queues_of, receives_of, regions_of};
 use crate::table::tables_of;
+use crate::words::graphs_words;
 use redn_graph::Graph;
 use redn_image::Image;
 use redn_kernel::{ChainInit, Program};
@@ -97,7 +98,9 @@ pub fn emit(alloc: Global, p: &Program, graphs: &[Graph]) -> Result<Image, Memor
     requires sound { IsSound p.now }
     requires graphs { AreGraphs p.now graphs.now }
     ensures placed { IfOk result (λ i. IsPlaced p.now graphs.now i) }
+    ensures words { AllHaveWords graphs.now }
 {
+    graphs_words(graphs);
     let chains = chains_of(alloc, p.chains.as_slice(), graphs)?;
     let entries_base = SLOT * slots_of(&chains);
     let data_base = entries_base + 2 * SLOT * chains.len() as u64;

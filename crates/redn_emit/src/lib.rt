@@ -10,5 +10,6 @@ mod requests;
 mod ring;
 mod rows;
 mod table;
+mod words;
 
 pub use image::emit;

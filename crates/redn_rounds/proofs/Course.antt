@@ -1,14 +1,16 @@
 -- A block's parts, one after the other: each does what is left of it to do.
-use Rattle.std.proofs.Common.{◌≡◌, ℕ, suc, ◌+◌, false, List, [], ◌∷◌, ◌++◌, length, None, refl, sym, ap, ◌∙◌, subst, arith}
+use Rattle.std.proofs.Common.{◌≡◌, ℕ, suc, ◌+◌, ◌<◌, false, List, [], ◌∷◌, ◌++◌, length, None, refl, sym, ap, ◌∙◌, subst, arith}
 use Rattle.std.specs.Prelude.{slice_get}
 use Rattle.std.specs.List.{All}
 use Rattle.std.proofs.lemmas.List.{append-nil}
 use Rattle.std.proofs.lemmas.List.Elements.{All-head, All-tail}
 use Rattle.std.proofs.lemmas.Option.{slice_get_past}
+use Rattle.std.proofs.lemmas.Bool.{true≢false}
 use Rattle.redn_words.specs.declared.types.Obs.{Obs}
 use Rattle.redn_words.specs.Words.{bytes_at}
 use Rattle.redn_graph.specs.declared.types.Instr.{Instr}
 use Rattle.redn_graph.specs.declared.types.End.{End}
+use Rattle.redn_graph.specs.declared.types.End.TheVariants.{Jump, Test48, Test64, Probe, Reply}
 use Rattle.redn_graph.specs.Fits.{FitsInstr}
 use Rattle.redn_graph.specs.Run.{GraphState}
 use Rattle.redn_segment.specs.declared.types.SlotRef.{SlotRef}
@@ -22,7 +24,7 @@ use Rattle.redn_segment.specs.Effects.{Effect, Leaves, Stops, Meets, IsLeft, is_
 use Rattle.redn_segment.specs.Parts.{IsPart, LeavesWhole}
 use Rattle.redn_segment.proofs.Composing.{not_owns, behind_next, behind_none}
 use Rattle.redn_segment.proofs.Growing.{drafts_append}
-use Rattle.redn_block.specs.Blocks.{instr_part, end_part, part_segments, part_effect, part_size, HasTarget, InstrWords}
+use Rattle.redn_block.specs.Blocks.{ring_of, instr_part, end_part, part_segments, part_effect, part_size, HasTarget, InstrWords}
 use Rattle.redn_block.specs.Matches.{IsAt, IsOver, Onward, Ended}
 use Rattle.redn_block.proofs.Cells.{same_cells}
 use Rattle.redn_block.proofs.Instrs.{After, instr_follows}
@@ -30,7 +32,8 @@ use Rattle.redn_block.proofs.Ends.{AfterEnd, last_slot, end_follows}
 use Rattle.redn_block.proofs.Parts.{effect_of, segments_of, slots_more, instr_is, end_is, block_is}
 use Rattle.redn_block.proofs.Whole.{last_of, last_is}
 use Rattle.redn_rounds.specs.Left.{Rest, LeftBy, IsLeftOf}
-use Rattle.redn_rounds.specs.Parts.{Round, IsRound, drafts, begins, last, Stands, AtPart, AtEnd}
+use Rattle.redn_rounds.specs.Parts.{Round, IsRound, drafts, begins, last, Stands, AtPart, GoesOn, EndsAs, AtEnd}
+use Rattle.redn_rounds.proofs.Onward.{Keeps, instr_keeps, end_keeps, LeadsTo, end_leads}
 use Rattle.redn_rounds.proofs.Standing.{writes_both, neither, primed_second, primed_both, primed_kept, whole_left}
 
 ends_long : (all es : List Draft) (at : SlotRef) (s : Bytes) → Primed all at es s → length (s (space.Slot (slot_behind at (length es)))) ≡ 64
@@ -107,33 +110,34 @@ module _ (most : ℕ) (r : Round) (is_round : IsRound most r) where
         }
 
     -- what stands after the part
-    stands_after : (s : Bytes) (us : List Put) (t : Bytes) → IsLeft at ds s us (is_own at (length ds)) t → IsWhole t → Stands r s → Stands r (placed s us)
-    stands_after s us t left whole stood =
+    stands_after : (b s : Bytes) (us : List Put) (t : Bytes) → IsLeft at ds s us (is_own at (length ds)) t → IsWhole t → ((ring : ℕ) → t (space.Descriptor ring) ≡ s (space.Descriptor ring)) → Stands r b s → Stands r b (placed s us)
+    stands_after b s us t left whole keeps stood =
         record {
           whole = whole_left at (length ds) ds s us t left whole;
           room = left.room;
           primed = primed_kept (drafts r) (drafts r) (begins r) s (placed s us) (λ q long. let same = left.slots q long in (same.0, λ k e. same.1 k (both_written q k e).0)) stood.primed;
+          descriptors = λ ring. left.spaces (space.Descriptor ring) refl ∙ (keeps ring ∙ stood.descriptors ring);
         }
 
     -- an instruction does what it has to do, whatever the tables are
-    pub instr_left : (x : GraphState) (t : Bytes) → AtPart r place x t → IsLeftOf r.course (AtPart r (suc place)) false x at ds t
-    instr_left x t here view number sees =
-        left_by (runs view at ds t) (part_effect at (instr_part i) view t) (its_part.does view sees t here.stands.whole here.stands.room (own_primed t here.stands.primed)) (its_part.tame.whole view sees t here.stands.whole) (instr_follows r.course.number r.course.words r.course.graph r.things r.number place r.block is_round.there x here.is_at view number t here.stands.whole here.same at i (ap (slice_get r.block.instrs) (let e : place ≡ place + 0 = omega arith in e) ∙ h.its 0) (All-head (FitsInstr r.things) i is h.fits) (All-head InstrWords i is h.small))
+    pub instr_left : (b : Bytes) (x : GraphState) (t : Bytes) → AtPart r b place x t → IsLeftOf r.course (AtPart r b (suc place)) false x at ds t
+    instr_left b x t here view number sees =
+        left_by (runs view at ds t) (part_effect at (instr_part i) view t) (its_part.does view sees t here.stands.whole here.stands.room (own_primed t here.stands.primed)) (its_part.tame.whole view sees t here.stands.whole) (instr_follows r.course.number r.course.words r.course.graph r.things r.number place r.block is_round.there x here.is_at view number t here.stands.whole here.same at i (ap (slice_get r.block.instrs) (let e : place ≡ place + 0 = omega arith in e) ∙ h.its 0) (All-head (FitsInstr r.things) i is h.fits) (All-head InstrWords i is h.small)) (instr_keeps i at view t)
       where
-        left_by : (o : Outcome) (one : Effect) → Meets at ds t o one → LeavesWhole one → After r.course.number r.course.words r.course.graph r.things r.number place r.block is_round.there x here.is_at t one → LeftBy r.course (AtPart r (suc place)) false x t o
-        left_by (Went us shown) (Leaves u events) m whole k = (
+        left_by : (o : Outcome) (one : Effect) → Meets at ds t o one → LeavesWhole one → After r.course.number r.course.words r.course.graph r.things r.number place r.block is_round.there x here.is_at t one → Keeps t one → LeftBy r.course (AtPart r b (suc place)) false x t o
+        left_by (Went us shown) (Leaves u events) m whole k keeps = (
           k.0,
           subst (λ (l : List Obs). Rest r.course false x l k.0) (sym m.0) k.1,
           record {
             is_at = k.3;
             same = same_cells r.things r.course.words k.0.cells u (placed t us) (λ a. m.1.spaces (space.Cell a) refl) k.2;
-            stands = stands_after t us u m.1 whole here.stands;
+            stands = stands_after b t us u m.1 whole keeps here.stands;
           },
         )
-        left_by (Faults us shown) (Stops u events) m whole k = (k.0, subst (λ (l : List Obs). Rest r.course false x l k.0) (sym m.0) k.1, k.2)
-        left_by (Went us shown) (Stops u events) m whole k = absurd m
-        left_by (Faults us shown) (Leaves u events) m whole k = absurd m
-        left_by Bad one m whole k = absurd m
+        left_by (Faults us shown) (Stops u events) m whole k keeps = (k.0, subst (λ (l : List Obs). Rest r.course false x l k.0) (sym m.0) k.1, k.2)
+        left_by (Went us shown) (Stops u events) m whole k keeps = absurd m
+        left_by (Faults us shown) (Leaves u events) m whole k keeps = absurd m
+        left_by Bad one m whole k keeps = absurd m
 
   module _ (at : SlotRef) (place : ℕ) (h : IsSuffix at place []) where
     abbrev es : List Draft
@@ -151,12 +155,13 @@ module _ (most : ℕ) (r : Round) (is_round : IsRound most r) where
     last_written : (q : SlotRef) (k : ℕ) → writes_slot (drafts r) q k ≡ false → writes_slot es q k ≡ false
     last_written q k e = ap (λ (l : List Draft). writes_slot l q k) (sym last_are) ∙ h.written q k e
 
-    last_stands : (s : Bytes) (us : List Put) (t : Bytes) → IsLeft at es s us (is_own at (length es)) t → IsWhole t → Stands r s → Stands r (placed s us)
-    last_stands s us t left whole stood =
+    last_stands : (b s : Bytes) (us : List Put) (t : Bytes) → IsLeft at es s us (is_own at (length es)) t → IsWhole t → ((ring : ℕ) → t (space.Descriptor ring) ≡ s (space.Descriptor ring)) → Stands r b s → Stands r b (placed s us)
+    last_stands b s us t left whole keeps stood =
         record {
           whole = whole_left at (length es) es s us t left whole;
           room = left.room;
           primed = primed_kept (drafts r) (drafts r) (begins r) s (placed s us) (λ q long. let same = left.slots q long in (same.0, λ k e. same.1 k (last_written q k e))) stood.primed;
+          descriptors = λ ring. left.spaces (space.Descriptor ring) refl ∙ (keeps ring ∙ stood.descriptors ring);
         }
 
     -- the last ENABLE is behind all drafts
@@ -167,31 +172,44 @@ module _ (most : ℕ) (r : Round) (is_round : IsRound most r) where
     free =
         subst (λ (q : SlotRef). is_own at (length es) (space.Slot q) ≡ false) (sym place_of_last ∙ h.last_there) (not_owns at (length es) (slot_behind at (length es)) (λ lies. let high = lies.2 in omega arith))
 
-    over_there : (s t u : Bytes) (z : GraphState) → u (space.Slot (last r)) ≡ t (space.Slot (last r)) → IsOver r.first (last r) s z t → IsOver r.first (last r) s z u
-    over_there s t u z e (Onward k at_k chooses) = Onward k at_k (ap (λ (l : List ℕ). bytes_at l 40 16) e ∙ chooses)
-    over_there s t u z e (Ended ended) = Ended ended
+    -- an end that hasn't ended its chain goes on
+    goes_there : (b s t u : Bytes) (z : GraphState) → u (space.Slot (last r)) ≡ t (space.Slot (last r)) → ((ring : ℕ) → s (space.Descriptor ring) ≡ b (space.Descriptor ring)) → z.ended ≡ false → z.block < r.things.blocks → IsOver r.first (last r) s z t → GoesOn r b z u
+    goes_there b s t u z e kept runs inside (Onward k at_k chooses) =
+        record {
+          inside = inside;
+          is_at = record { block_is = refl; place_is = at_k.place_is; taking_not = at_k.taking_not; runs_on = at_k.runs_on };
+          chooses = ap (λ (l : List ℕ). bytes_at l 40 16) e ∙ (chooses ∙ kept (ring_of r.first z.block));
+        }
+    goes_there b s t u z e kept runs inside (Ended ended) = absurd (true≢false (sym ended ∙ runs))
+
+    over_there : (e : End) (b s t u : Bytes) (z : GraphState) → u (space.Slot (last r)) ≡ t (space.Slot (last r)) → ((ring : ℕ) → s (space.Descriptor ring) ≡ b (space.Descriptor ring)) → LeadsTo r.things e z → IsOver r.first (last r) s z t → EndsAs r e b z u
+    over_there (Jump to) b s t u z e kept leads over = goes_there b s t u z e kept leads.0 leads.1 over
+    over_there (Test48 left right met unmet) b s t u z e kept leads over = goes_there b s t u z e kept leads.0 leads.1 over
+    over_there (Test64 left right met unmet) b s t u z e kept leads over = goes_there b s t u z e kept leads.0 leads.1 over
+    over_there (Probe to k offset key hit miss) b s t u z e kept leads over = goes_there b s t u z e kept leads.0 leads.1 over
+    over_there (Reply words) b s t u z e kept leads over = leads
 
     -- and so does the end
-    pub end_left : (x : GraphState) (t : Bytes) → AtPart r place x t → IsLeftOf r.course (AtEnd r t) false x at es t
-    end_left x t here view number sees =
+    pub end_left : (b : Bytes) (x : GraphState) (t : Bytes) → AtPart r b place x t → IsLeftOf r.course (AtEnd r b) false x at es t
+    end_left b x t here view number sees =
         let many = h.many in
         let place_is : place ≡ length r.block.instrs = omega arith in
         let at_end : IsAt r.number (length r.block.instrs) x = subst (λ (k : ℕ). IsAt r.number k x) place_is here.is_at in
         let behind : slice_get r.block.instrs (length r.block.instrs) ≡ None = slice_get_past r.block.instrs (length r.block.instrs) (omega arith) in
         let long : length (t (space.Slot (last_slot at end))) ≡ 64 = subst (λ (q : SlotRef). length (t (space.Slot q)) ≡ 64) (sym place_of_last) (ends_long es es at t (last_primed t here.stands.primed)) in
-        left_by at_end behind (runs view at es t) (part_effect at (end_part r.first end) view t) (last_part.does view sees t here.stands.whole here.stands.room (last_primed t here.stands.primed)) (last_part.tame.whole view sees t here.stands.whole) (end_follows r.course.number r.course.words r.course.graph r.things r.first r.number r.block is_round.there x at_end behind view number t here.stands.whole here.same at end refl is_round.fits.end_fits is_round.small.end long)
+        left_by at_end behind (runs view at es t) (part_effect at (end_part r.first end) view t) refl (last_part.does view sees t here.stands.whole here.stands.room (last_primed t here.stands.primed)) (last_part.tame.whole view sees t here.stands.whole) (end_follows r.course.number r.course.words r.course.graph r.things r.first r.number r.block is_round.there x at_end behind view number t here.stands.whole here.same at end refl is_round.fits.end_fits is_round.small.end long) (end_keeps r.first end at view t)
       where
-        left_by : (at_end : IsAt r.number (length r.block.instrs) x) (behind : slice_get r.block.instrs (length r.block.instrs) ≡ None) (o : Outcome) (one : Effect) → Meets at es t o one → LeavesWhole one → AfterEnd r.course.number r.course.words r.course.graph r.things r.first r.number r.block is_round.there x at_end behind (last_slot at end) t one → LeftBy r.course (AtEnd r t) false x t o
-        left_by at_end behind (Went us shown) (Leaves u events) m whole k = (
+        left_by : (at_end : IsAt r.number (length r.block.instrs) x) (behind : slice_get r.block.instrs (length r.block.instrs) ≡ None) (o : Outcome) (one : Effect) → part_effect at (end_part r.first end) view t ≡ one → Meets at es t o one → LeavesWhole one → AfterEnd r.course.number r.course.words r.course.graph r.things r.first r.number r.block is_round.there x at_end behind (last_slot at end) t one → Keeps t one → LeftBy r.course (AtEnd r b) false x t o
+        left_by at_end behind (Went us shown) (Leaves u events) is m whole k keeps = (
           k.0,
           subst (λ (l : List Obs). Rest r.course false x l k.0) (sym m.0) k.1,
           record {
             same = same_cells r.things r.course.words k.0.cells u (placed t us) (λ a. m.1.spaces (space.Cell a) refl) k.2;
-            over = over_there t u (placed t us) k.0 (m.1.spaces (space.Slot (last r)) free) (subst (λ (q : SlotRef). IsOver r.first q t k.0 u) h.last_there k.3);
-            stands = last_stands t us u m.1 whole here.stands;
+            over = over_there end b t u (placed t us) k.0 (m.1.spaces (space.Slot (last r)) free) here.stands.descriptors (end_leads r.course.number r.course.words r.course.graph r.things r.first r.number r.block is_round.there x at_end behind view t here.same at end refl is_round.fits.end_fits is_round.small.end u events is k.0 k.1) (subst (λ (q : SlotRef). IsOver r.first q t k.0 u) h.last_there k.3);
+            stands = last_stands b t us u m.1 whole keeps here.stands;
           },
         )
-        left_by at_end behind (Faults us shown) (Stops u events) m whole k = (k.0, subst (λ (l : List Obs). Rest r.course false x l k.0) (sym m.0) k.1, k.2)
-        left_by at_end behind (Went us shown) (Stops u events) m whole k = absurd m
-        left_by at_end behind (Faults us shown) (Leaves u events) m whole k = absurd m
-        left_by at_end behind Bad one m whole k = absurd m
+        left_by at_end behind (Faults us shown) (Stops u events) is m whole k keeps = (k.0, subst (λ (l : List Obs). Rest r.course false x l k.0) (sym m.0) k.1, k.2)
+        left_by at_end behind (Went us shown) (Stops u events) is m whole k keeps = absurd m
+        left_by at_end behind (Faults us shown) (Leaves u events) is m whole k keeps = absurd m
+        left_by at_end behind Bad one is m whole k keeps = absurd m

@@ -1,5 +1,6 @@
 -- A block's segments, one after the other: each leads from one stage of the graph to another.
-use Rattle.std.proofs.Common.{◌≡◌, ℕ, suc, ◌<◌, Bool, true, false, List, [], ◌∷◌, ◌++◌, length, length-append, refl, sym, ap, ◌∙◌, subst, arith}
+use Rattle.std.proofs.Common.{◌≡◌, ℕ, suc, ◌<◌, Bool, true, false, List, [], ◌∷◌, ◌++◌, length, map, length-append, refl, sym, ap, ◌∙◌, subst, arith}
+use Rattle.std.proofs.lemmas.Bool.{false≢true}
 use Rattle.std.proofs.lemmas.List.{append-nil}
 use Rattle.redn_kernel.specs.declared.types.Cell.TheVariants as cell
 use Rattle.redn_graph.specs.declared.types.Instr.{Instr}
@@ -23,11 +24,11 @@ use Rattle.redn_rings.specs.Runs.{own_view}
 use Rattle.redn_lapped.proofs.Alike.{Alike, alike_placed}
 use Rattle.redn_block.specs.Blocks.{instr_part, end_part, part_segments, part_size}
 use Rattle.redn_block.proofs.Parts.{segments_of}
-use Rattle.redn_block.specs.Matches.{Same, IsOver, Onward, Ended}
+use Rattle.redn_block.specs.Matches.{Same}
 use Rattle.redn_rounds.specs.Left.{Course, Falls, LeftBy, IsLeftOf}
-use Rattle.redn_rounds.specs.Parts.{Round, IsRound, segments, drafts, begins, last, Stands, AtPart, AtEnd}
+use Rattle.redn_rounds.specs.Parts.{Round, IsRound, is_last, Mark, marks_of, all_marks, segments, drafts, begins, marks, Stands, AtPart, GoesOn, EndsAs, AtEnd}
 use Rattle.redn_rounds.specs.Stages as stages
-use Rattle.redn_rounds.specs.Stages.{Ghost, Tells, Comes, Follows, SegmentsFollow}
+use Rattle.redn_rounds.specs.Stages.{Ghost, Tells, Comes, Starts, Follows, SegmentsFollow}
 use Rattle.redn_rounds.proofs.Left.{left_silent, events_lead, left_events, left_faults, left_never_bad}
 use Rattle.redn_rounds.proofs.Standing.{primed_kept}
 use Rattle.redn_rounds.proofs.Course.{IsSuffix, suffix_first, suffix_next, instr_left, end_left}
@@ -89,51 +90,72 @@ module _ (c : Course) where
       by_run (Faults us l) k = k
       by_run Bad k = k
 
-module _ (r : Round) (most : ℕ) (is_round : IsRound most r) where
+abbrev no_tables : Bytes
+no_tables p = []
+
+no_bytes : HasBytes no_tables
+no_bytes k i d small = let none : i < 0 = small in absurd (omega (arith, none))
+
+-- a block that began with the state b
+module _ (r : Round) (most : ℕ) (is_round : IsRound most r) (b : Bytes) where
   abbrev end : End
   end = r.block.end
 
   abbrev segments_from : SlotRef → List Instr → List (List Draft)
   segments_from at is = segments_of r.first at is end
 
-  abbrev Later : ℕ → GraphState → Bytes → Type 0
-  Later = stages.Later r
+  -- where each segment is, from a part on
+  abbrev told_from : ℕ → SlotRef → List Instr → List Mark
+  told_from place at is = all_marks place at (map instr_part is ++ end_part r.first end ∷ [])
 
-  abbrev Done : Bytes → GraphState → Bytes → Type 0
-  Done = stages.Done r
+  abbrev mark : ℕ → Bool → List (List Draft) → Mark
+  mark place opens rest = record { place = place; opens = opens; closes = is_last rest }
+
+  abbrev Later : ℕ → GraphState → Bytes → Type 0
+  Later = stages.Later r b
+
+  abbrev Done : GraphState → Bytes → Type 0
+  Done = stages.Done r b
 
   later_beside : (place : ℕ) (z : GraphState) (s t : Bytes) → Beside s t → Later place z s → Later place z t
-  later_beside place z s t h k u bytes = subst (AtPart r place z) (λ i p. tabled_beside s t u h p i) (k u bytes)
+  later_beside place z s t h k u bytes = subst (AtPart r b place z) (λ i p. tabled_beside s t u h p i) (k u bytes)
 
-  done_beside : (b : Bytes) (z : GraphState) (s t : Bytes) → Beside s t → Done b z s → Done b z t
-  done_beside b z s t h k u bytes = subst (AtEnd r b z) (λ i p. tabled_beside s t u h p i) (k u bytes)
+  done_beside : (z : GraphState) (s t : Bytes) → Beside s t → Done z s → Done z t
+  done_beside z s t h k u bytes = subst (AtEnd r b z) (λ i p. tabled_beside s t u h p i) (k u bytes)
 
-  stands_tabled : (t u : Bytes) → HasBytes u → Stands r t → Stands r (tabled t u)
+  stands_tabled : (t u : Bytes) → HasBytes u → Stands r b t → Stands r b (tabled t u)
   stands_tabled t u bytes h =
       record {
         whole = record { cells = λ c. h.whole.cells c; numbers = λ n. h.whole.numbers n; descriptors = λ ring. h.whole.descriptors ring; tables = λ k. bytes k };
         room = record { reply = h.room.reply; key = h.room.key; scratch = λ i. h.room.scratch i };
         primed = primed_kept (drafts r) (drafts r) (begins r) t (tabled t u) (λ q long. (long, λ i e. refl)) h.primed;
+        descriptors = λ ring. h.descriptors ring;
       }
 
   same_tabled : (z : GraphState) (t u : Bytes) → Same r.things r.course.words z.cells t → Same r.things r.course.words z.cells (tabled t u)
   same_tabled z t u h = record { many = h.many; cells = λ a is small. h.cells a is small }
 
-  over_tabled : (s : Bytes) (z : GraphState) (t u : Bytes) → IsOver r.first (last r) s z t → IsOver r.first (last r) s z (tabled t u)
-  over_tabled s z t u (Onward k at_k chooses) = Onward k at_k chooses
-  over_tabled s z t u (Ended ended) = Ended ended
+  goes_tabled : (z : GraphState) (t u : Bytes) → GoesOn r b z t → GoesOn r b z (tabled t u)
+  goes_tabled z t u h = record { inside = h.inside; is_at = h.is_at; chooses = h.chooses }
 
-  to_later : (place : ℕ) (z : GraphState) (t : Bytes) → AtPart r place z t → Later place z t
+  over_tabled : (e : End) (z : GraphState) (t u : Bytes) → EndsAs r e b z t → EndsAs r e b z (tabled t u)
+  over_tabled (Jump to) z t u h = goes_tabled z t u h
+  over_tabled (Test48 left right met unmet) z t u h = goes_tabled z t u h
+  over_tabled (Test64 left right met unmet) z t u h = goes_tabled z t u h
+  over_tabled (Probe to k offset key hit miss) z t u h = goes_tabled z t u h
+  over_tabled (Reply words) z t u h = h
+
+  to_later : (place : ℕ) (z : GraphState) (t : Bytes) → AtPart r b place z t → Later place z t
   to_later place z t h u bytes = record { is_at = h.is_at; same = same_tabled z t u h.same; stands = stands_tabled t u bytes h.stands }
 
-  to_done : (s : Bytes) (z : GraphState) (t : Bytes) → AtEnd r s z t → Done s z t
-  to_done s z t h u bytes = record { same = same_tabled z t u h.same; over = over_tabled s z t u h.over; stands = stands_tabled t u bytes h.stands }
+  to_done : (z : GraphState) (t : Bytes) → AtEnd r b z t → Done z t
+  to_done z t h u bytes = record { same = same_tabled z t u h.same; over = over_tabled end z t u h.over; stands = stands_tabled t u bytes h.stands }
 
   -- before a segment of an instruction, or of the end; or behind the last one
-  pub data Stage (at : SlotRef) (y : Ghost) (t : Bytes) (segs : List (List Draft)) : Type 0 where
-    Within : (place : ℕ) (is : List Instr) (here : List Draft) (rest : List (List Draft)) (next : SlotRef) → next ≡ slot_behind at (length (drafts_of (here ∷ rest))) → IsSuffix most r is_round next (suc place) is → IsLeftOf r.course (Later (suc place)) y.ahead y.state at (drafts_of (here ∷ rest)) t → segs ≡ here ∷ (rest ++ segments_from next is) → Stage at y t segs
-    Ending : (s : Bytes) (here : List Draft) (rest : List (List Draft)) → IsLeftOf r.course (Done s) y.ahead y.state at (drafts_of (here ∷ rest)) t → segs ≡ here ∷ rest → Stage at y t segs
-    Over : (s : Bytes) → Done s y.state t → y.ahead ≡ false → segs ≡ [] → Stage at y t segs
+  pub data Stage (at : SlotRef) (y : Ghost) (t : Bytes) (segs : List (List Draft)) (told : List Mark) : Type 0 where
+    Within : (place : ℕ) (opens : Bool) → Starts r opens place y → (is : List Instr) (here : List Draft) (rest : List (List Draft)) (next : SlotRef) → next ≡ slot_behind at (length (drafts_of (here ∷ rest))) → IsSuffix most r is_round next (suc place) is → IsLeftOf r.course (Later (suc place)) y.ahead y.state at (drafts_of (here ∷ rest)) t → segs ≡ here ∷ (rest ++ segments_from next is) → told ≡ mark place opens rest ∷ (marks_of place false rest ++ told_from (suc place) next is) → Stage at y t segs told
+    Ending : (place : ℕ) (opens : Bool) → Starts r opens place y → (here : List Draft) (rest : List (List Draft)) → IsLeftOf r.course Done y.ahead y.state at (drafts_of (here ∷ rest)) t → segs ≡ here ∷ rest → told ≡ mark place opens rest ∷ marks_of place false rest → Stage at y t segs told
+    Over : Done y.state t → y.ahead ≡ false → segs ≡ [] → Stage at y t segs told
 
   -- each part has a segment
   pub record IsSome (segs : List (List Draft)) : Type 0 where
@@ -162,21 +184,21 @@ module _ (r : Round) (most : ℕ) (is_round : IsRound most r) where
   end_some (Reply words) at = some_of _ _
 
   -- where a part begins
-  pub enter : (at : SlotRef) (place : ℕ) (is : List Instr) → IsSuffix most r is_round at place is → (x : GraphState) (t u : Bytes) → HasBytes u → Later place x t → Stage at (record { state = x; ahead = false }) t (segments_from at is)
+  pub enter : (at : SlotRef) (place : ℕ) (is : List Instr) → IsSuffix most r is_round at place is → (x : GraphState) (t u : Bytes) → HasBytes u → Later place x t → Stage at (record { state = x; ahead = false }) t (segments_from at is) (told_from place at is)
   enter at place [] h x t u bytes here =
       let some = end_some end at in
-      let left = left_map r.course (AtEnd r (tabled t u)) (Done (tabled t u)) (to_done (tabled t u)) false x at (drafts_of (part_segments at (end_part r.first end))) (tabled t u) (end_left most r is_round at place h x (tabled t u) (here u bytes)) in
-      Ending (tabled t u) some.here some.rest (subst (λ (l : List (List Draft)). IsLeftOf r.course (Done (tabled t u)) false x at (drafts_of l) t) some.is (left_beside r.course (Done (tabled t u)) (done_beside (tabled t u)) false x at (drafts_of (part_segments at (end_part r.first end))) (tabled t u) t (beside_tabled t u) left)) (append-nil (part_segments at (end_part r.first end)) ∙ some.is)
+      let left = left_map r.course (AtEnd r b) Done to_done false x at (drafts_of (part_segments at (end_part r.first end))) (tabled t u) (end_left most r is_round at place h b x (tabled t u) (here u bytes)) in
+      Ending place true (λ o. (refl, (here u bytes).is_at)) some.here some.rest (subst (λ (l : List (List Draft)). IsLeftOf r.course Done false x at (drafts_of l) t) some.is (left_beside r.course Done done_beside false x at (drafts_of (part_segments at (end_part r.first end))) (tabled t u) t (beside_tabled t u) left)) (append-nil (part_segments at (end_part r.first end)) ∙ some.is) (append-nil (marks_of place true (part_segments at (end_part r.first end))) ∙ ap (marks_of place true) some.is)
   enter at place (i ∷ is) h x t u bytes here =
       let some = instr_some i at in
-      let left = left_map r.course (AtPart r (suc place)) (Later (suc place)) (to_later (suc place)) false x at (drafts_of (part_segments at (instr_part i))) (tabled t u) (instr_left most r is_round at place i is h x (tabled t u) (here u bytes)) in
-      Within place is some.here some.rest (slot_behind at (part_size at (instr_part i))) (ap (λ (l : List (List Draft)). slot_behind at (length (drafts_of l))) some.is) (suffix_next most r is_round at place i is h) (subst (λ (l : List (List Draft)). IsLeftOf r.course (Later (suc place)) false x at (drafts_of l) t) some.is (left_beside r.course (Later (suc place)) (later_beside (suc place)) false x at (drafts_of (part_segments at (instr_part i))) (tabled t u) t (beside_tabled t u) left)) (ap (λ (l : List (List Draft)). l ++ segments_from (slot_behind at (part_size at (instr_part i))) is) some.is)
+      let left = left_map r.course (AtPart r b (suc place)) (Later (suc place)) (to_later (suc place)) false x at (drafts_of (part_segments at (instr_part i))) (tabled t u) (instr_left most r is_round at place i is h b x (tabled t u) (here u bytes)) in
+      Within place true (λ o. (refl, (here u bytes).is_at)) is some.here some.rest (slot_behind at (part_size at (instr_part i))) (ap (λ (l : List (List Draft)). slot_behind at (length (drafts_of l))) some.is) (suffix_next most r is_round at place i is h) (subst (λ (l : List (List Draft)). IsLeftOf r.course (Later (suc place)) false x at (drafts_of l) t) some.is (left_beside r.course (Later (suc place)) (later_beside (suc place)) false x at (drafts_of (part_segments at (instr_part i))) (tabled t u) t (beside_tabled t u) left)) (ap (λ (l : List (List Draft)). l ++ segments_from (slot_behind at (part_size at (instr_part i))) is) some.is) (ap (λ (l : List (List Draft)). marks_of place true l ++ told_from (suc place) (slot_behind at (part_size at (instr_part i))) is) some.is)
 
   -- what comes of the next segment, over other tables
-  abbrev pub Came : SlotRef → Ghost → Bytes → Bytes → List (List Draft) → List Draft → Outcome → Type 0
-  Came at y t u later here (Went us events) = (z : Ghost) × (closes : Bool) × Tells r.course closes y events z × Stage (slot_behind at (length here)) z (placed (tabled t u) us) later
-  Came at y t u later here (Faults us events) = Falls r.course y.ahead y.state events
-  Came at y t u later here Bad = ⊥
+  abbrev pub Came : SlotRef → Ghost → Bytes → Bytes → List (List Draft) → List Mark → Bool → List Draft → Outcome → Type 0
+  Came at y t u later told last here (Went us events) = (z : Ghost) × Tells r.course last y events z × Stage (slot_behind at (length here)) z (placed (tabled t u) us) later told
+  Came at y t u later told last here (Faults us events) = Falls r.course y.ahead y.state events
+  Came at y t u later told last here Bad = ⊥
 
   -- the run of the next segment, over tables of bytes
   module _ (at : SlotRef) (y : Ghost) (t u : Bytes) (bytes : HasBytes u) where
@@ -186,7 +208,7 @@ module _ (r : Round) (most : ℕ) (is_round : IsRound most r) where
     abbrev pub run : List Draft → Outcome
     run here = runs (own_view r.course.number u) at here there
 
-    abbrev pub Goes : List (List Draft) → List Draft → Outcome → Type 0
+    abbrev pub Goes : List (List Draft) → List Mark → Bool → List Draft → Outcome → Type 0
     Goes = Came at y t u
 
     module _ (Then : GraphState → Bytes → Type 0) (beside : (z : GraphState) (s t : Bytes) → Beside s t → Then z s → Then z t) where
@@ -218,64 +240,83 @@ module _ (r : Round) (most : ℕ) (is_round : IsRound most r) where
     next_place here next rest e =
         e ∙ (ap (slot_behind at) (length-append here (drafts_of rest)) ∙ sym (behind_twice at (length here) (length (drafts_of rest))))
 
-    within : (place : ℕ) (is : List Instr) (here : List Draft) (rest : List (List Draft)) (next : SlotRef) → next ≡ slot_behind at (length (drafts_of (here ∷ rest))) → IsSuffix most r is_round next (suc place) is → IsLeftOf r.course (Later (suc place)) y.ahead y.state at (drafts_of (here ∷ rest)) t → Goes (rest ++ segments_from next is) here (run here)
+    within : (place : ℕ) (is : List Instr) (here : List Draft) (rest : List (List Draft)) (next : SlotRef) → next ≡ slot_behind at (length (drafts_of (here ∷ rest))) → IsSuffix most r is_round next (suc place) is → IsLeftOf r.course (Later (suc place)) y.ahead y.state at (drafts_of (here ∷ rest)) t → Goes (rest ++ segments_from next is) (marks_of place false rest ++ told_from (suc place) next is) (is_last rest) here (run here)
     within place is here [] next e suffix left = by_run (run here) (close (Later (suc place)) (later_beside (suc place)) here left)
       where
-        by_run : (o : Outcome) → LeftBy r.course (Later (suc place)) y.ahead y.state there o → Goes (segments_from next is) here o
+        by_run : (o : Outcome) → LeftBy r.course (Later (suc place)) y.ahead y.state there o → Goes (segments_from next is) (told_from (suc place) next is) true here o
         by_run (Went us events) k =
-            (record { state = k.0; ahead = false }, true, (k.1, refl), subst (λ (q : SlotRef). Stage q (record { state = k.0; ahead = false }) (placed there us) (segments_from next is)) (next_place here next [] e ∙ behind_none (slot_behind at (length here))) (enter next (suc place) is suffix k.0 (placed there us) u bytes k.2))
+            (record { state = k.0; ahead = false }, (k.1, refl), subst (λ (q : SlotRef). Stage q (record { state = k.0; ahead = false }) (placed there us) (segments_from next is) (told_from (suc place) next is)) (next_place here next [] e ∙ behind_none (slot_behind at (length here))) (enter next (suc place) is suffix k.0 (placed there us) u bytes k.2))
         by_run (Faults us events) k = k
         by_run Bad k = k
     within place is here (more ∷ rest) next e suffix left = by_run (run here) (cut (Later (suc place)) (later_beside (suc place)) here (drafts_of (more ∷ rest)) left)
       where
-        by_run : (o : Outcome) → Cut (Later (suc place)) (later_beside (suc place)) here (drafts_of (more ∷ rest)) o → Goes ((more ∷ rest) ++ segments_from next is) here o
-        by_run (Went us events) k = (k.0, false, k.1, Within place is more rest next (next_place here next (more ∷ rest) e) suffix k.2 refl)
+        by_run : (o : Outcome) → Cut (Later (suc place)) (later_beside (suc place)) here (drafts_of (more ∷ rest)) o → Goes ((more ∷ rest) ++ segments_from next is) (marks_of place false (more ∷ rest) ++ told_from (suc place) next is) false here o
+        by_run (Went us events) k = (k.0, k.1, Within place false (λ o. absurd (false≢true o)) is more rest next (next_place here next (more ∷ rest) e) suffix k.2 refl refl)
         by_run (Faults us events) k = k
         by_run Bad k = k
 
-    ending : (s : Bytes) (here : List Draft) (rest : List (List Draft)) → IsLeftOf r.course (Done s) y.ahead y.state at (drafts_of (here ∷ rest)) t → Goes rest here (run here)
-    ending s here [] left = by_run (run here) (close (Done s) (done_beside s) here left)
+    ending : (place : ℕ) (here : List Draft) (rest : List (List Draft)) → IsLeftOf r.course Done y.ahead y.state at (drafts_of (here ∷ rest)) t → Goes rest (marks_of place false rest) (is_last rest) here (run here)
+    ending place here [] left = by_run (run here) (close Done done_beside here left)
       where
-        by_run : (o : Outcome) → LeftBy r.course (Done s) y.ahead y.state there o → Goes [] here o
-        by_run (Went us events) k = (record { state = k.0; ahead = false }, true, (k.1, refl), Over s k.2 refl refl)
+        by_run : (o : Outcome) → LeftBy r.course Done y.ahead y.state there o → Goes [] [] true here o
+        by_run (Went us events) k = (record { state = k.0; ahead = false }, (k.1, refl), Over k.2 refl refl)
         by_run (Faults us events) k = k
         by_run Bad k = k
-    ending s here (more ∷ rest) left = by_run (run here) (cut (Done s) (done_beside s) here (drafts_of (more ∷ rest)) left)
+    ending place here (more ∷ rest) left = by_run (run here) (cut Done done_beside here (drafts_of (more ∷ rest)) left)
       where
-        by_run : (o : Outcome) → Cut (Done s) (done_beside s) here (drafts_of (more ∷ rest)) o → Goes (more ∷ rest) here o
-        by_run (Went us events) k = (k.0, false, k.1, Ending s more rest k.2 refl)
+        by_run : (o : Outcome) → Cut Done done_beside here (drafts_of (more ∷ rest)) o → Goes (more ∷ rest) (marks_of place false (more ∷ rest)) false here o
+        by_run (Went us events) k = (k.0, k.1, Ending place false (λ o. absurd (false≢true o)) more rest k.2 refl refl)
         by_run (Faults us events) k = k
         by_run Bad k = k
 
-    pub goes_on : (segs : List (List Draft)) (here : List Draft) (later : List (List Draft)) → segs ≡ here ∷ later → Stage at y t segs → Goes later here (run here)
-    goes_on segs here later e (Within place is first rest next place_is suffix left is_here) =
+    -- one of these two, by other names
+    named : (first here : List Draft) (others later : List (List Draft)) (told : List Mark) (closes : Bool) → first ≡ here → others ≡ later → Goes others told closes first (run first) → Goes later told closes here (run here)
+    named first here others later told closes a c h = subst (λ (l : List (List Draft)). Goes l told closes here (run here)) c (subst (λ (f : List Draft). Goes others told closes f (run f)) a h)
+
+    pub goes_on : (segs : List (List Draft)) (m : Mark) (told : List Mark) (here : List Draft) (later : List (List Draft)) → segs ≡ here ∷ later → Stage at y t segs (m ∷ told) → Goes later told m.closes here (run here)
+    goes_on segs m told here later e (Within place opens starts is first rest next place_is suffix left is_here told_are) =
         let same : first ≡ here = cc in
         let others : rest ++ segments_from next is ≡ later = cc in
-        subst (λ (l : List (List Draft)). Goes l here (run here)) others (subst (λ (d : List Draft). Goes (rest ++ segments_from next is) d (run d)) same (within place is first rest next place_is suffix left))
-    goes_on segs here later e (Ending s first rest left is_here) =
+        let one : mark place opens rest ≡ m = cc in
+        let more : marks_of place false rest ++ told_from (suc place) next is ≡ told = cc in
+        subst (λ (l : List Mark). Goes later l m.closes here (run here)) more (subst (λ (w : Mark). Goes later (marks_of place false rest ++ told_from (suc place) next is) w.closes here (run here)) one (named first here (rest ++ segments_from next is) later (marks_of place false rest ++ told_from (suc place) next is) (is_last rest) same others (within place is first rest next place_is suffix left)))
+    goes_on segs m told here later e (Ending place opens starts first rest left is_here told_are) =
         let same : first ≡ here = cc in
         let others : rest ≡ later = cc in
-        subst (λ (l : List (List Draft)). Goes l here (run here)) others (subst (λ (d : List Draft). Goes rest d (run d)) same (ending s first rest left))
-    goes_on segs here later e (Over s done ahead none) = absurd (cc)
+        let one : mark place opens rest ≡ m = cc in
+        let more : marks_of place false rest ≡ told = cc in
+        subst (λ (l : List Mark). Goes later l m.closes here (run here)) more (subst (λ (w : Mark). Goes later (marks_of place false rest) w.closes here (run here)) one (named first here rest later (marks_of place false rest) (is_last rest) same others (ending place first rest left)))
+    goes_on segs m told here later e (Over done ahead none) = absurd (cc)
 
-  pub follows : (segs : List (List Draft)) (at : SlotRef) (y : Ghost) (t : Bytes) → Stage at y t segs → Follows r segs at y t
-  follows [] at y t (Within place is here rest next place_is suffix left e) = absurd (cc)
-  follows [] at y t (Ending s here rest left e) = absurd (cc)
-  follows [] at y t (Over s done ahead e) = (s, done, ahead)
-  follows (here ∷ later) at y t stage = λ u bytes. by_run u (run at y t u bytes here) (goes_on at y t u bytes (here ∷ later) here later refl stage) (λ z w next. follows later (slot_behind at (length here)) z w next)
+  -- where the graph is at the first segment of a part
+  starts_here : (segs : List (List Draft)) (m : Mark) (told : List Mark) (at : SlotRef) (y : Ghost) (t : Bytes) (here : List Draft) (later : List (List Draft)) → segs ≡ here ∷ later → Stage at y t segs (m ∷ told) → Starts r m.opens m.place y
+  starts_here segs m told at y t here later e (Within place opens starts is first rest next place_is suffix left is_here told_are) =
+      let one : mark place opens rest ≡ m = cc in subst (λ (w : Mark). Starts r w.opens w.place y) one starts
+  starts_here segs m told at y t here later e (Ending place opens starts first rest left is_here told_are) =
+      let one : mark place opens rest ≡ m = cc in subst (λ (w : Mark). Starts r w.opens w.place y) one starts
+  starts_here segs m told at y t here later e (Over done ahead none) = absurd (cc)
+
+  not_none : (segs : List (List Draft)) (at : SlotRef) (y : Ghost) (t : Bytes) (here : List Draft) (later : List (List Draft)) → segs ≡ here ∷ later → Stage at y t segs [] → ⊥
+  not_none segs at y t here later e (Within place opens starts is first rest next place_is suffix left is_here told_are) = absurd (cc)
+  not_none segs at y t here later e (Ending place opens starts first rest left is_here told_are) = absurd (cc)
+  not_none segs at y t here later e (Over done ahead none) = absurd (cc)
+
+  pub follows : (segs : List (List Draft)) (told : List Mark) (at : SlotRef) (y : Ghost) (t : Bytes) → Stage at y t segs told → Follows r b segs told at y t
+  follows [] told at y t (Within place opens starts is here rest next place_is suffix left e f) = absurd (cc)
+  follows [] told at y t (Ending place opens starts here rest left e f) = absurd (cc)
+  follows [] told at y t (Over done ahead e) = (done, ahead)
+  follows (here ∷ later) [] at y t stage = absurd (not_none (here ∷ later) at y t here later refl stage)
+  follows (here ∷ later) (m ∷ told) at y t stage = (
+    starts_here (here ∷ later) m told at y t here later refl stage,
+    λ u bytes. by_run u (run at y t u bytes here) (goes_on at y t u bytes (here ∷ later) m told here later refl stage) (λ z w next. follows later told (slot_behind at (length here)) z w next),
+  )
     where
-      by_run : (u : Bytes) (o : Outcome) → Came at y t u later here o → ((z : Ghost) (w : Bytes) → Stage (slot_behind at (length here)) z w later → Follows r later (slot_behind at (length here)) z w) → Comes r (Follows r later (slot_behind at (length here))) y (tabled t u) o
-      by_run u (Went us events) k rest = (k.0, k.1, k.2, rest k.0 (placed (tabled t u) us) k.3)
+      by_run : (u : Bytes) (o : Outcome) → Came at y t u later told m.closes here o → ((z : Ghost) (w : Bytes) → Stage (slot_behind at (length here)) z w later told → Follows r b later told (slot_behind at (length here)) z w) → Comes r (Follows r b later told (slot_behind at (length here))) m.closes y (tabled t u) o
+      by_run u (Went us events) k rest = (k.0, k.1, rest k.0 (placed (tabled t u) us) k.2)
       by_run u (Faults us events) k rest = k
       by_run u Bad k rest = k
 
 -- the law
-abbrev no_tables : Bytes
-no_tables p = []
-
-no_bytes : HasBytes no_tables
-no_bytes k i d small = let none : i < 0 = small in absurd (omega (arith, none))
-
 pub segments_follow : SegmentsFollow
 segments_follow most r is_round x t here =
-    follows r most is_round (segments r) (begins r) (record { state = x; ahead = false }) t (enter r most is_round (begins r) 0 r.block.instrs (suffix_first most r is_round) x t no_tables no_bytes here)
+    follows r most is_round t (segments r) (marks r) (begins r) (record { state = x; ahead = false }) t (enter r most is_round t (begins r) 0 r.block.instrs (suffix_first most r is_round) x t no_tables no_bytes here)

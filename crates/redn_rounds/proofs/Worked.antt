@@ -1,5 +1,5 @@
 -- What the segments of a sum tell of a graph: the first copies the word, and the second shows the sum; then the end's show a reply.
-use Rattle.std.proofs.Common.{ℕ, ◌+◌, ◌*◌, ◌^◌, true, false, [], ◌∷◌, refl}
+use Rattle.std.proofs.Common.{◌≡◌, ℕ, ◌+◌, ◌*◌, ◌^◌, true, false, [], ◌∷◌, refl}
 use Rattle.redn_words.specs.declared.types.Obs.TheVariants as shows
 use Rattle.redn_words.specs.Words.{spelled, number}
 use Rattle.redn_kernel.specs.declared.types.Cell.TheVariants.{Var}
@@ -9,6 +9,8 @@ use Rattle.redn_graph.specs.declared.types.Graph.{Graph}
 use Rattle.redn_graph.specs.Run.{GraphState, graph_step, instr_does, end_does}
 use Rattle.redn_rounds.specs.Truth.{IsTrueBy}
 use Rattle.redn_rounds.specs.Left.{Course}
+use Rattle.redn_rounds.specs.Parts.{Round, marks}
+use Rattle.redn_rounds.specs.Shares.{place_in, begins_in, closes_in}
 use Rattle.redn_rounds.specs.Stages.{Tells}
 
 abbrev graph : Graph
@@ -50,3 +52,14 @@ loads = (refl, refl)
 faults : IsTrueBy (λ (t : ℕ). spelled 16 (5 * 2 ^ 64 + 9)) (shows.Fault 2 0 9)
 unfolding spelled number
 faults = refl
+
+-- the sum has two segments, and so has the jump behind it
+abbrev round : Round
+round = record { course = course; things = record { blocks = 1; hidden = 0; vars = 2; args = 0; tables = [] }; first = 5; number = 0; block = record { instrs = instr.Add (Var 0) (Var 1) ∷ []; end = end.Jump 0 }; ring = 5 }
+
+segments_are : marks round ≡ record { place = 0; opens = true; closes = false } ∷ record { place = 0; opens = false; closes = true } ∷ record { place = 1; opens = true; closes = false } ∷ record { place = 1; opens = false; closes = true } ∷ []
+segments_are = refl
+
+-- of three parts with one, two and four segments, segment 2 is the last one of the second
+shares : (place_in (1 ∷ 2 ∷ 4 ∷ []) 2 ≡ 1) × (begins_in (1 ∷ 2 ∷ 4 ∷ []) 2 ≡ false) × (closes_in (1 ∷ 2 ∷ 4 ∷ []) 2 ≡ true)
+shares = (refl, refl, refl)

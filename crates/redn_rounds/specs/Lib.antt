@@ -1,4 +1,5 @@
 pub mod Truth
 pub mod Left
 pub mod Parts
+pub mod Shares
 pub mod Stages

@@ -10,7 +10,8 @@ use Rattle.redn_segment.specs.Effects.{slot_behind}
 use Rattle.redn_laps.specs.Turns.{HasBytes, tabled}
 use Rattle.redn_rings.specs.Runs.{own_view}
 use Rattle.redn_rounds.specs.Left.{Course, Rest, Falls}
-use Rattle.redn_rounds.specs.Parts.{Round, IsRound, segments, begins, AtPart, AtEnd}
+use Rattle.redn_block.specs.Matches.{IsAt}
+use Rattle.redn_rounds.specs.Parts.{Round, IsRound, Mark, segments, begins, marks, AtPart, AtEnd}
 
 -- the graph's state, and whether the instruction or end that runs has shown an event already, so that this is the state behind that event
 pub record Ghost : Type 0 where
@@ -25,24 +26,29 @@ Tells c false y (e ∷ l) z = EventSteps c.number c.words c.graph y.state (e ∷
 
 module _ (r : Round) where
   -- whatever the tables are, here the block goes on, or is over
-  abbrev pub Later : ℕ → GraphState → Bytes → Type 0
-  Later place z t = (u : Bytes) → HasBytes u → AtPart r place z (tabled t u)
+  abbrev pub Later : Bytes → ℕ → GraphState → Bytes → Type 0
+  Later b place z t = (u : Bytes) → HasBytes u → AtPart r b place z (tabled t u)
 
   abbrev pub Done : Bytes → GraphState → Bytes → Type 0
-  Done s z t = (u : Bytes) → HasBytes u → AtEnd r s z (tabled t u)
+  Done b z t = (u : Bytes) → HasBytes u → AtEnd r b z (tabled t u)
 
-  abbrev pub Comes : (Ghost → Bytes → Type 0) → Ghost → Bytes → Outcome → Type 0
-  Comes Next y t (Went us events) = (z : Ghost) × (closes : Bool) × Tells r.course closes y events z × Next z (placed t us)
-  Comes Next y t (Faults us events) = Falls r.course y.ahead y.state events
-  Comes Next y t Bad = ⊥
+  abbrev pub Comes : (Ghost → Bytes → Type 0) → Bool → Ghost → Bytes → Outcome → Type 0
+  Comes Next closes y t (Went us events) = (z : Ghost) × Tells r.course closes y events z × Next z (placed t us)
+  Comes Next closes y t (Faults us events) = Falls r.course y.ahead y.state events
+  Comes Next closes y t Bad = ⊥
 
-  -- segments from a slot on: each sees other tables, none goes badly, and behind the last one the block is over
-  abbrev pub Follows : List (List Draft) → SlotRef → Ghost → Bytes → Type 0
-  Follows [] at y t = (s : Bytes) × Done s y.state t × (y.ahead ≡ false)
-  Follows (here ∷ later) at y t =
-      (u : Bytes) → HasBytes u → Comes (Follows later (slot_behind at (length here))) y (tabled t u) (runs (own_view r.course.number u) at here (tabled t u))
+  -- at the first segment of an instruction or end the graph is there, and not ahead
+  abbrev pub Starts : Bool → ℕ → Ghost → Type 0
+  Starts opens place y = opens ≡ true → (y.ahead ≡ false) × IsAt r.number place y.state
+
+  -- segments from a slot on, of each of which it is told where it is: each sees other tables, none goes badly, and behind the last one the block is over, which began with the state b
+  abbrev pub Follows : Bytes → List (List Draft) → List Mark → SlotRef → Ghost → Bytes → Type 0
+  Follows b [] told at y t = Done b y.state t × (y.ahead ≡ false)
+  Follows b (here ∷ later) [] at y t = ⊥
+  Follows b (here ∷ later) (m ∷ told) at y t =
+      Starts m.opens m.place y × ((u : Bytes) → HasBytes u → Comes (Follows b later told (slot_behind at (length here))) m.closes y (tabled t u) (runs (own_view r.course.number u) at here (tabled t u)))
 
 -- the segments of a block's ring follow its graph from the block's beginning
 abbrev pub SegmentsFollow : Type 0
 SegmentsFollow =
-    (most : ℕ) (r : Round) → IsRound most r → (x : GraphState) (t : Bytes) → Later r 0 x t → Follows r (segments r) (begins r) (record { state = x; ahead = false }) t
+    (most : ℕ) (r : Round) → IsRound most r → (x : GraphState) (t : Bytes) → Later r t 0 x t → Follows r t (segments r) (marks r) (begins r) (record { state = x; ahead = false }) t

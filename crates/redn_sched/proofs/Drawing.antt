@@ -4,7 +4,7 @@ use Rattle.std.specs.Prelude.{slice_get, slice_index, is_some, IfSome}
 use Rattle.std.specs.List.{All, find, filter, list_any, range_with_len}
 use Rattle.std.specs.Option.{option_map}
 use Rattle.std.proofs.lemmas.Bool.{true≢false, false≢true}
-use Rattle.std.proofs.lemmas.List.{get_or-map}
+use Rattle.std.proofs.lemmas.List.{length-set}
 use Rattle.std.proofs.lemmas.List.Elements.{filter_passes, filter-append, All-filter}
 use Rattle.std.proofs.lemmas.List.FromFn.{length-range_with_len, get_or-range_with_len}
 use Rattle.std.proofs.lemmas.List.Folds.{list_any-append}
@@ -16,13 +16,10 @@ use Rattle.redn_words.specs.Steps.{possible, with_queue}
 use Rattle.redn_queue.specs.Telling.{least_unheld, greatest_unheld, oldest_unlanded, newest_unlanded}
 use Rattle.redn_adapter.specs.Quiet.{IsQuiet}
 use Rattle.redn_adapter.proofs.Quiet.{find_passes}
-use Rattle.redn_sched.specs.declared.turns.Turns.{Turns}
 use Rattle.redn_sched.specs.MadeSchedules.{cyclically, in_turn, land_of, fetch_of, queues_of, queue_acts, queue_from, chain_acts}
 use Rattle.redn_sched.specs.Shuffles.{Shuffling, behind, drawn, another, held_head, in_order, of_queue, candidates, acting, moved_to, of_chain, shuffled_next}
-use Rattle.redn_sched.specs.MadeView.{chain_queues}
-use Rattle.redn_sched.specs.ShuffleView.{Shuffled, shuffled_on}
+use Rattle.redn_sched.specs.ShuffleView.{shuffled_on}
 use Rattle.redn_sched.proofs.Turning.{some_acts, some_found, range_split}
-use Rattle.redn_sched.proofs.Chains.{kept, as_many, kept_at}
 use Rattle.redn_sched.proofs.NoAction.{quiet_where, quiet_chain, none_passes}
 
 module _ {X : Type 0} (z : ℕ) where
@@ -163,37 +160,18 @@ module _ (s : State) where
     λ quiet. rw (none_left (chain_acts s) (range_with_len 0 (length s.chains)) (none_passes (chain_acts s) (range_with_len 0 (length s.chains)) (quiet_chain s quiet))) refl,
   )
 
--- the next action by what is kept of each chain
-abbrev pub shuffling_at : ℕ → List Turns → Shuffling
-shuffling_at z turns = record { z = z; queues = map (λ (t : Turns). t.cursor) turns }
+pub record IsDrawn (s : State) (k : Shuffling) (c : ℕ) (q : Option ℕ) : Type 0 where
+  pub drawn_is : drawn k.z (acting s) ≡ Some c
+  pub queue : q ≡ queue_from s k.queues c
 
-pub record IsDrawn (s : State) (turns : List Turns) (z c : ℕ) (t : Turns) (q : Option ℕ) : Type 0 where
-  pub same : kept turns ≡ chain_queues s
-  pub drawn_is : drawn z (acting s) ≡ Some c
-  pub turn : t ≡ get_or turns c t
-  pub queue : q ≡ find (queue_acts s) (cyclically t.cursor t.queues.items)
+module _ (s : State) (k : Shuffling) (c : ℕ) (q : Option ℕ) (is : IsDrawn s k c q) where
+  next : shuffled_next s k ≡ option_map (λ (a : Action). let now : Shuffling = record { z = behind (behind k.z); queues = moved_to k.queues c q } in (a, now)) (drawn (behind k.z) (candidates s c q))
+  next = rw (is.drawn_is, is.queue) refl
 
-module _ (s : State) (turns : List Turns) (z c : ℕ) (t : Turns) (q : Option ℕ) (is : IsDrawn s turns z c t q) where
-  there : c < length s.chains
-  there = chain_drawn s z c is.drawn_is
-
-  pub turn_within : c < length turns
-  turn_within = omega (arith, there, as_many turns s is.same)
-
-  queue_is : queue_from s (map (λ (t : Turns). t.cursor) turns) c ≡ q
-  queue_is =
-      let at : slice_index (map (λ (t : Turns). t.cursor) turns) c ≡ t.cursor = get_or-map (λ (x : Turns). x.cursor) turns c t 0 turn_within ∙ sym (ap (λ (x : Turns). x.cursor) is.turn) in
-      ap (λ (k : ℕ). find (queue_acts s) (cyclically k (queues_of s c))) at
-      ∙ ap (λ (qs : List ℕ). find (queue_acts s) (cyclically t.cursor qs)) (sym (kept_at turns s c t is.same there is.turn))
-      ∙ sym is.queue
-
-  next : shuffled_next s (shuffling_at z turns) ≡ option_map (λ (a : Action). let k : Shuffling = record { z = behind (behind z); queues = moved_to (map (λ (t : Turns). t.cursor) turns) c q } in (a, k)) (drawn (behind z) (candidates s c q))
-  next = rw (is.drawn_is, queue_is) refl
-
-  pub none_next : drawn (behind z) (candidates s c q) ≡ None → shuffled_next s (shuffling_at z turns) ≡ None
+  pub none_next : drawn (behind k.z) (candidates s c q) ≡ None → shuffled_next s k ≡ None
   none_next e = next ∙ rw e refl
 
-  pub some_next : (a : Action) → drawn (behind z) (candidates s c q) ≡ Some a → shuffled_next s (shuffling_at z turns) ≡ Some (a, record { z = behind (behind z); queues = moved_to (map (λ (t : Turns). t.cursor) turns) c q })
+  pub some_next : (a : Action) → drawn (behind k.z) (candidates s c q) ≡ Some a → shuffled_next s k ≡ Some (a, record { z = behind (behind k.z); queues = moved_to k.queues c q })
   some_next a e = next ∙ rw e refl
 
 -- where no chain is drawn there is none
@@ -216,7 +194,18 @@ module _ (p : ℕ → Bool) (xs : List ℕ) (n : ℕ) (e : xs ≡ filter p (rang
   pub passing_same : p n ≡ false → xs ≡ filter p (range_with_len 0 (n + 1))
   passing_same f = sym (split ∙ ap (λ (b : Bool). xs ++ cond b (n ∷ []) []) f ∙ append-nil xs)
 
--- a draw leaves the queues
-pub shuffled_queues : (m : Shuffled) (o : Option (Action × Shuffling)) → (shuffled_on m o).queues ≡ m.queues
-shuffled_queues m None = refl
-shuffled_queues m (Some p) = refl
+-- a draw leaves as many cursors
+pub drawn_many : (s : State) (k : Shuffling) → length (shuffled_on k (shuffled_next s k)).queues ≡ length k.queues
+drawn_many s k = by_chain (drawn k.z (acting s))
+  where
+    by_move : (c : ℕ) (q : Option ℕ) → length (moved_to k.queues c q) ≡ length k.queues
+    by_move c None = refl
+    by_move c (Some q) = length-set k.queues c q
+
+    by_action : (c : ℕ) (q : Option ℕ) (o : Option Action) → length (shuffled_on k (option_map (λ (a : Action). let now : Shuffling = record { z = behind (behind k.z); queues = moved_to k.queues c q } in (a, now)) o)).queues ≡ length k.queues
+    by_action c q None = refl
+    by_action c q (Some a) = by_move c q
+
+    by_chain : (o : Option ℕ) → length (shuffled_on k (of_chain s k o)).queues ≡ length k.queues
+    by_chain None = refl
+    by_chain (Some c) = by_action c (queue_from s k.queues c) (drawn (behind k.z) (candidates s c (queue_from s k.queues c)))

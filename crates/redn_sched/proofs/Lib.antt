@@ -6,7 +6,7 @@ pub mod BadLines
 mod Worked
 mod WorkedFair
 pub mod Turning
-pub mod Chains
+pub mod Nearest
 pub mod Active
 pub mod Rows
 pub mod Choosing

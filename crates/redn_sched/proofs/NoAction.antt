@@ -1,6 +1,7 @@
 -- Where the fair rules have no next action.
 use Rattle.std.proofs.Common.{◌≡◌, ◌↔◌, ℕ, zero, suc, ◌+◌, ◌<◌, Bool, true, false, cond, ◌||◌, List, [], ◌∷◌, Option, Some, None, length, get_or, refl, sym, ap, subst, ◌∙◌, inl, inr, arith}
-use Rattle.std.specs.Prelude.{slice_get, slice_index, is_some}
+use Rattle.std.specs.Prelude.{slice_get, slice_index, slice_set, is_some}
+use Rattle.std.proofs.lemmas.List.{length-set}
 use Rattle.std.specs.List.{All, find, filter, list_any, range_with_len}
 use Rattle.std.specs.Option.{option_map}
 use Rattle.std.proofs.lemmas.Bool.{false≢true, true≢false, eq-eqb, cases_lt}
@@ -13,8 +14,8 @@ use Rattle.redn_words.specs.States.{Queue, State}
 use Rattle.redn_words.specs.Steps.{possible, with_queue, deliver_possible}
 use Rattle.redn_adapter.specs.Quiet.{IsQuiet, is_active}
 use Rattle.redn_adapter.proofs.Quiet.{find_passes, then_quiet, no_delivery, quiet_idle}
-use Rattle.redn_sched.specs.MadeSchedules.{Cursors, cyclically, is_of, queues_of, queue_action, queue_acts, chain_acts, active_queue, by_queue, by_chain, fair_next}
-use Rattle.redn_sched.specs.MadeView.{Making, moved}
+use Rattle.redn_sched.specs.MadeSchedules.{Cursors, cyclically, is_of, queues_of, queue_action, queue_acts, chain_acts, active_queue, with_action, by_queue, by_chain, fair_next}
+use Rattle.redn_sched.specs.MadeView.{moved}
 use Rattle.redn_sched.proofs.Turning.{some_acts}
 use Rattle.redn_sched.proofs.Active.{some_is, acts_here, acts_is_active}
 
@@ -134,7 +135,20 @@ none_acts s k domains = (
   λ quiet. no_next s k (none_passes (chain_acts s) (range_with_len 0 (length s.chains)) (quiet_chain s quiet)),
 )
 
--- a move leaves the queues
-pub moved_queues : (m : Making) (o : Option (Action × Cursors)) → (moved m o).queues ≡ m.queues
-moved_queues m None = refl
-moved_queues m (Some p) = refl
+-- a move leaves as many cursors
+pub moved_many : (s : State) (k : Cursors) → length (moved k (fair_next s k)).queues ≡ length k.queues
+moved_many s k = by_taken (find (chain_acts s) (cyclically k.chain (range_with_len 0 (length s.chains))))
+  where
+    by_action : (next : Cursors) (o : Option Action) → length next.queues ≡ length k.queues → length (moved k (with_action next o)).queues ≡ length k.queues
+    by_action next None e = refl
+    by_action next (Some a) e = e
+
+    by_acting : (c : ℕ) (o : Option ℕ) → length (moved k (by_queue s (record k { chain = c + 1 }) c o)).queues ≡ length k.queues
+    by_acting c None = refl
+    by_acting c (Some q) = by_action (record { chain = c + 1; queues = slice_set k.queues c q }) (queue_action s q) (length-set k.queues c q)
+
+    by_taken : (o : Option ℕ) → length (moved k (by_chain s k o)).queues ≡ length k.queues
+    by_taken None = refl
+    by_taken (Some c) =
+        let next = record k { chain = c + 1 } in
+        elim (possible s (Deliver c)) as (λ b. length (moved k (cond b (Some (Deliver c, next)) (by_queue s next c (active_queue s k c)))).queues ≡ length k.queues) [ true ↦ refl | false ↦ by_acting c (active_queue s k c) ]

@@ -8,7 +8,7 @@ use Rattle.redn_sched.specs.MadeSchedules.{cyclically}
 
 module _ {X : Type 0} (p : X → Bool) where
   -- what is found in a filtered list
-  find_filtered : (f : X → Bool) (xs : List X) → find p (filter f xs) ≡ find (λ x. f x && p x) xs
+  pub find_filtered : (f : X → Bool) (xs : List X) → find p (filter f xs) ≡ find (λ x. f x && p x) xs
   find_filtered f [] = refl
   find_filtered f (x ∷ xs) =
       elim (f x) as (λ b. find p (cond b (x ∷ filter f xs) (filter f xs)) ≡ cond (b && p x) (Some x) (find (λ x. f x && p x) xs)) [

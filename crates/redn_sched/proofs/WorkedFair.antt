@@ -1,5 +1,5 @@
 -- Fair schedules of small images by hand, computed.
-use Rattle.std.proofs.Common.{◌≡◌, ℕ, true, [], ◌∷◌, ◌++◌, refl, replicate}
+use Rattle.std.proofs.Common.{◌≡◌, ℕ, true, [], ◌∷◌, ◌++◌, map, refl, replicate}
 use Rattle.std.specs.Prelude.{Some, None}
 use Rattle.std.specs.FinMap.{gets}
 use Rattle.redn_words.specs.declared.types.QueueRow.{QueueRow}
@@ -11,8 +11,9 @@ use Rattle.redn_words.specs.Access.{access}
 use Rattle.redn_words.specs.Landings.{lands}
 use Rattle.redn_words.specs.States.{State, start}
 use Rattle.redn_words.specs.Steps.{possible, after, may_start, started, counter_of}
-use Rattle.redn_sched.specs.MadeSchedules.{cyclically, first_cursors, fair_next, fair_from, fair}
-use Rattle.redn_sched.specs.MadeView.{HasSameQueues, chain_queues, first_making, moved, followed_by}
+use Rattle.redn_sched.specs.MadeSchedules.{queues_of, cyclically, first_cursors, fair_next, fair_from, fair}
+use Rattle.redn_sched.specs.MadeView.{moved, followed_by}
+use Rattle.redn_sched.specs.Nearest.{turn_of}
 
 after_the_cursor : cyclically 3 (0 ∷ 2 ∷ 3 ∷ 5 ∷ []) ≡ 3 ∷ 5 ∷ 0 ∷ 2 ∷ []
 after_the_cursor = refl
@@ -80,26 +81,25 @@ unfolding ring no_message a_wait_for_the_message number spelled decoded encoded 
 the_message_comes_late = simp gets refl
 
 -- chain 0 has no queue here, and chain 1 has two
-queues_by_chain : chain_queues (start [] (ring 1 0 1 1 ∷ ring 1 64 1 1 ∷ []) (no_message ∷ no_message ∷ []) [] (None ∷ None ∷ [])) ≡ [] ∷ (0 ∷ 1 ∷ []) ∷ []
+queues_by_chain : map (queues_of (start [] (ring 1 0 1 1 ∷ ring 1 64 1 1 ∷ []) (no_message ∷ no_message ∷ []) [] (None ∷ None ∷ []))) (0 ∷ 1 ∷ []) ≡ [] ∷ (0 ∷ 1 ∷ []) ∷ []
 unfolding ring no_message start
 queues_by_chain = refl
 
-the_first_cursors : first_making message_and_queue ≡ record { cursors = record { chain = 0; queues = 0 ∷ 0 ∷ [] }; queues = [] ∷ (0 ∷ []) ∷ [] }
+the_first_cursors : first_cursors message_and_queue ≡ record { chain = 0; queues = 0 ∷ 0 ∷ [] }
 unfolding ring no_message message_and_queue start
 the_first_cursors = refl
 
 -- the message is delivered, and chain 1 comes next
-a_move : moved (first_making message_and_queue) (fair_next message_and_queue (first_cursors message_and_queue)) ≡ record { cursors = record { chain = 1; queues = 0 ∷ 0 ∷ [] }; queues = [] ∷ (0 ∷ []) ∷ [] }
+a_move : moved (first_cursors message_and_queue) (fair_next message_and_queue (first_cursors message_and_queue)) ≡ record { chain = 1; queues = 0 ∷ 0 ∷ [] }
 unfolding ring no_message message_and_queue number spelled start possible
 a_move = refl
 
-no_move : moved (first_making message_and_queue) None ≡ first_making message_and_queue
+no_move : moved (first_cursors message_and_queue) None ≡ first_cursors message_and_queue
 no_move = refl
+
+-- from a cursor on, the queues below it come after all others
+turns_from_3 : map (turn_of 3) (3 ∷ 5 ∷ 0 ∷ 2 ∷ []) ≡ 0 ∷ 2 ∷ 4294967293 ∷ 4294967295 ∷ []
+turns_from_3 = refl
 
 rest_of_a_list : followed_by (Some (Deliver 0)) (λ a. a ∷ []) ≡ Deliver 0 ∷ Deliver 0 ∷ []
 rest_of_a_list = refl
-
--- a delivery leaves the rows of queues
-after_a_delivery : HasSameQueues message_and_queue (after message_and_queue (Deliver 0))
-unfolding ring no_message message_and_queue start after
-after_a_delivery = record { chains = refl; rows = λ n. refl }

@@ -5,3 +5,4 @@ pub mod MadeView
 pub mod Shuffles
 pub mod ShuffleView
 pub mod Pieces
+pub mod Nearest

@@ -1,14 +1,13 @@
 ghost use Rattle.std.specs.Prelude.{◌≡◌, ◌↔◌, ◌+◌, ◌-◌, ◌<◌, ◌≤◌, ◌&&◌, nat_le, nat_lt, ℕ, suc, true, length, None, IfOk, IfSome, slice_get};
 ghost use Rattle.std.specs.Option.{option_map};
 ghost use Rattle.std.specs.List.{find, range_with_len};
-ghost use Rattle.redn_words.specs.States.{State};
 ghost use Rattle.redn_words.specs.Steps.{after, is_useful, possible};
 ghost use Rattle.redn_words.specs.declared.types.Action.{Action};
 ghost use Rattle.redn_adapter.specs.Quiet.{IsQuiet};
-ghost use Rattle.redn_sched.specs.MadeView.{HasSameQueues, chain_queues, first_making, moved, followed_by};
-ghost use Rattle.redn_sched.specs.MadeSchedules.{is_of, queues_of, cyclically, queue_action, queue_acts, chain_acts, fair_next, fair_from};
+ghost use Rattle.redn_sched.specs.MadeView.{moved, followed_by};
+ghost use Rattle.redn_sched.specs.MadeSchedules.{cyclically, first_cursors, chain_acts, fair_next, fair_from};
 
-use crate::turns::{Turns, active_queue, chain_acts, first_turns, queue_action};
+use crate::turns::{active_queue, chain_acts, first_cursors, queue_action};
 use redn_adapter::Adapter;
 use redn_words::{Action, Memory};
 use std::alloc::Global;
@@ -18,14 +17,16 @@ use std::marker::Model;
 /// has nothing useful to do.
 #[derive(Drop)]
 pub struct Fair {
+    /// The number from which on the next chain is looked for.
     chain: u32,
-    turns: Vec<Turns>,
+    /// Of each chain the number from which on its next queue is.
+    queues: Vec<u32>,
 }
 
 impl Model for Fair {
-    ghost use Rattle.redn_sched.specs.MadeView.{Making};
+    ghost use Rattle.redn_sched.specs.MadeSchedules.{Cursors};
 
-    ghost Value = { Making };
+    ghost Value = { Cursors };
 
     ghost use Rattle.redn_sched.specs.MadeView.{fair_view, IsFair};
 
@@ -37,23 +38,20 @@ impl Model for Fair {
 impl Fair {
     /// The schedule before its first action.
     pub fn new(alloc: Global, a: &Adapter) -> Result<Self, Memory>
-        ensures first { IfOk result (λ f. f ≡ first_making a.now.state) }
-        // So it serves each adapter with as many chains and the same rows of queues.
-        ensures serves { (t : State) → HasSameQueues a.now.state t → chain_queues t ≡ chain_queues a.now.state }
+        ensures { IfOk result (λ f. f ≡ first_cursors a.now.state) }
     {
-        let turns = first_turns(alloc, a)?;
-        Ok(Fair { chain: 0, turns })
+        let queues = first_cursors(alloc, a)?;
+        Ok(Fair { chain: 0, queues })
     }
 
     /// The first of some chains that may be taken.
     fn first_acting(&self, a: &Adapter, from: u32, to: u32) -> Option<u32>
-        requires queues { self.now.queues ≡ chain_queues a.now.state }
         requires there { to ≤ length a.now.state.chains }
         ensures value { result ≡ find (chain_acts a.now.state) (range_with_len from (to - from)) }
         ensures below { IfSome result (λ c. c < to) }
     {
         for chain in from..to {
-            if chain_acts(a, &self.turns, chain) {
+            if chain_acts(a, chain) {
                 return Some(chain);
             }
         }
@@ -62,10 +60,10 @@ impl Fair {
 
     /// The first chain from the cursor on, and then from the least on, that may be taken.
     fn acting_chain(&self, a: &Adapter, count: u32) -> Option<u32>
-        requires queues { self.now.queues ≡ chain_queues a.now.state }
+        requires many { length self.now.queues ≡ length a.now.state.chains }
         requires count { count ≡ length a.now.state.chains }
         ensures value { result ≡ find (chain_acts a.now.state)
-            (cyclically self.now.cursors.chain (range_with_len 0 (length a.now.state.chains))) }
+            (cyclically self.now.chain (range_with_len 0 (length a.now.state.chains))) }
         ensures there { IfSome result (λ c. c < length a.now.state.chains) }
     {
         match self.first_acting(a, self.chain, count) {
@@ -76,10 +74,10 @@ impl Fair {
 
     /// The next action of an adapter with so many chains. Nothing changes where there is none.
     fn take(&mut self, a: &Adapter, count: u32) -> Option<Action>
-        requires queues { self.old.queues ≡ chain_queues a.now.state }
+        requires many { length self.old.queues ≡ length a.now.state.chains }
         requires count { count ≡ length a.now.state.chains }
-        ensures action { result ≡ option_map (λ p. p.0) (fair_next a.now.state self.old.cursors) }
-        ensures cursors { self.new ≡ moved self.old (fair_next a.now.state self.old.cursors) }
+        ensures action { result ≡ option_map (λ p. p.0) (fair_next a.now.state self.old) }
+        ensures cursors { self.new ≡ moved self.old (fair_next a.now.state self.old) }
     {
         let chain = self.acting_chain(a, count)?;
         let delivery = Action::Deliver { chain };
@@ -87,25 +85,25 @@ impl Fair {
             self.chain = chain + 1;
             return Some(delivery);
         }
-        let queue = active_queue(a, &self.turns[chain as usize])?;
+        let queue = active_queue(a, chain, self.queues[chain as usize])?;
         let action = queue_action(a, queue)?;
         self.chain = chain + 1;
-        self.turns[chain as usize].cursor = queue;
+        self.queues[chain as usize] = queue;
         Some(action)
     }
 
     /// The next action, or none where no useful action is possible. The adapter is the one that the
-    /// schedule was made for, or one with the same queue rows and chains. Takes no memory.
+    /// schedule was made for, or one with as many chains. Takes no memory.
     pub fn next_fair(&mut self, a: &Adapter) -> Option<Action>
-        requires { self.old.queues ≡ chain_queues a.now.state }
-        ensures action { result ≡ option_map (λ p. p.0) (fair_next a.now.state self.old.cursors) }
-        ensures cursors { self.new ≡ moved self.old (fair_next a.now.state self.old.cursors) }
+        requires { length self.old.queues ≡ length a.now.state.chains }
+        ensures action { result ≡ option_map (λ p. p.0) (fair_next a.now.state self.old) }
+        ensures cursors { self.new ≡ moved self.old (fair_next a.now.state self.old) }
         ensures possible { IfSome result (λ act. possible a.now.state act ≡ true) }
         ensures useful { IfSome result (λ act. is_useful a.now.state act ≡ true) }
         ensures quiet { (result ≡ None) ↔ IsQuiet a.now.state }
-        ensures list { (n : ℕ) → fair_from (suc n) a.now.state self.old.cursors
-            ≡ followed_by result (λ act. fair_from n (after a.now.state act) self.new.cursors) }
-        ensures stays { (act : Action) → self.new.queues ≡ chain_queues (after a.now.state act) }
+        ensures list { (n : ℕ) → fair_from (suc n) a.now.state self.old
+            ≡ followed_by result (λ act. fair_from n (after a.now.state act) self.new) }
+        ensures stays { (act : Action) → length self.new.queues ≡ length (after a.now.state act).chains }
     {
         self.take(a, a.chain_count())
     }

@@ -1,15 +1,14 @@
 ghost use Rattle.std.specs.Prelude.{◌≡◌, ◌↔◌, ℕ, suc, true, length, None, IfOk, IfSome, All, ◌<◌, map};
 ghost use Rattle.std.specs.Option.{option_map};
-ghost use Rattle.redn_words.specs.States.{State};
 ghost use Rattle.redn_words.specs.Steps.{after, possible};
 ghost use Rattle.redn_words.specs.declared.types.Action.{Action};
 ghost use Rattle.redn_adapter.specs.Quiet.{IsQuiet};
-ghost use Rattle.redn_sched.specs.MadeView.{HasSameQueues, chain_queues, followed_by};
-ghost use Rattle.redn_sched.specs.Shuffles.{behind, drawn, acting, candidates, another, in_order, of_queue, shuffled_next, shuffled_from};
-ghost use Rattle.redn_sched.specs.ShuffleView.{first_shuffled, shuffled_on};
+ghost use Rattle.redn_sched.specs.MadeView.{followed_by};
+ghost use Rattle.redn_sched.specs.Shuffles.{behind, drawn, acting, first_shuffling, shuffled_next, shuffled_from};
+ghost use Rattle.redn_sched.specs.ShuffleView.{shuffled_on};
 
 use crate::choices::Choices;
-use crate::turns::{Turns, active_queue, chain_acts, first_turns};
+use crate::turns::{active_queue, chain_acts, first_cursors};
 use arrayvec::ArrayVec;
 use redn_adapter::Adapter;
 use redn_words::{Action, Memory};
@@ -21,13 +20,14 @@ use std::marker::Model;
 #[derive(Drop)]
 pub struct Shuffle {
     z: u64,
-    turns: Vec<Turns>,
+    /// Of each chain the number from which on its next queue is looked for.
+    queues: Vec<u32>,
 }
 
 impl Model for Shuffle {
-    ghost use Rattle.redn_sched.specs.ShuffleView.{Shuffled};
+    ghost use Rattle.redn_sched.specs.Shuffles.{Shuffling};
 
-    ghost Value = { Shuffled };
+    ghost Value = { Shuffling };
 
     ghost use Rattle.redn_sched.specs.ShuffleView.{shuffle_view};
 
@@ -55,14 +55,13 @@ fn drawn<T: Copy>(z: u64, list: &[T]) -> Option<T>
 }
 
 /// The chains that may be taken, by rising number.
-fn acting_chains(a: &Adapter, turns: &[Turns]) -> ArrayVec<u32, 16>
-    requires { map (λ t. t.queues.items) turns.now ≡ chain_queues a.now.state }
+fn acting_chains(a: &Adapter) -> ArrayVec<u32, 16>
     ensures chains { result.items ≡ acting a.now.state }
     ensures domains { All (λ u. u.row.domain < length a.now.state.chains) a.now.state.queues }
 {
     let mut chains = ArrayVec::new();
     for chain in 0..a.chain_count() {
-        if chain_acts(a, turns, chain) {
+        if chain_acts(a, chain) {
             chains.push(chain);
         }
     }
@@ -72,45 +71,43 @@ fn acting_chains(a: &Adapter, turns: &[Turns]) -> ArrayVec<u32, 16>
 impl Shuffle {
     /// The schedule of a number before its first action.
     pub fn new(alloc: Global, a: &Adapter, number: u64) -> Result<Self, Memory>
-        ensures first { IfOk result (λ f. f ≡ first_shuffled a.now.state number) }
-        // So it serves each adapter with as many chains and the same rows of queues.
-        ensures serves { (t : State) → HasSameQueues a.now.state t → chain_queues t ≡ chain_queues a.now.state }
+        ensures { IfOk result (λ f. f ≡ first_shuffling a.now.state number) }
     {
-        let turns = first_turns(alloc, a)?;
-        Ok(Shuffle { z: number, turns })
+        let queues = first_cursors(alloc, a)?;
+        Ok(Shuffle { z: number, queues })
     }
 
     /// The next action. Nothing changes where there is none.
     fn take(&mut self, a: &Adapter) -> Option<Action>
-        requires { self.old.queues ≡ chain_queues a.now.state }
-        ensures action { result ≡ option_map (λ p. p.0) (shuffled_next a.now.state self.old.at) }
-        ensures now { self.new ≡ shuffled_on self.old (shuffled_next a.now.state self.old.at) }
+        requires { length self.old.queues ≡ length a.now.state.chains }
+        ensures action { result ≡ option_map (λ p. p.0) (shuffled_next a.now.state self.old) }
+        ensures now { self.new ≡ shuffled_on self.old (shuffled_next a.now.state self.old) }
         ensures domains { All (λ u. u.row.domain < length a.now.state.chains) a.now.state.queues }
     {
-        let chains = acting_chains(a, &self.turns);
+        let chains = acting_chains(a);
         let chain = drawn(self.z, chains.as_slice())?;
-        let queue = active_queue(a, &self.turns[chain as usize]);
+        let queue = active_queue(a, chain, self.queues[chain as usize]);
         let z = behind(self.z);
         let choices = Choices::of(a, chain, queue);
         let action = drawn(z, choices.as_slice())?;
         self.z = behind(z);
         if let Some(queue) = queue {
-            self.turns[chain as usize].cursor = queue;
+            self.queues[chain as usize] = queue;
         }
         Some(action)
     }
 
     /// The next action, or none where no useful action is possible. The adapter is the one that the
-    /// schedule was made for, or one with the same queue rows and chains. Takes no memory.
+    /// schedule was made for, or one with as many chains. Takes no memory.
     pub fn next_shuffled(&mut self, a: &Adapter) -> Option<Action>
-        requires { self.old.queues ≡ chain_queues a.now.state }
-        ensures action { result ≡ option_map (λ p. p.0) (shuffled_next a.now.state self.old.at) }
-        ensures now { self.new ≡ shuffled_on self.old (shuffled_next a.now.state self.old.at) }
+        requires { length self.old.queues ≡ length a.now.state.chains }
+        ensures action { result ≡ option_map (λ p. p.0) (shuffled_next a.now.state self.old) }
+        ensures now { self.new ≡ shuffled_on self.old (shuffled_next a.now.state self.old) }
         ensures possible { IfSome result (λ act. possible a.now.state act ≡ true) }
         ensures quiet { (result ≡ None) ↔ IsQuiet a.now.state }
-        ensures list { (n : ℕ) → shuffled_from (suc n) a.now.state self.old.at
-            ≡ followed_by result (λ act. shuffled_from n (after a.now.state act) self.new.at) }
-        ensures stays { (act : Action) → self.new.queues ≡ chain_queues (after a.now.state act) }
+        ensures list { (n : ℕ) → shuffled_from (suc n) a.now.state self.old
+            ≡ followed_by result (λ act. shuffled_from n (after a.now.state act) self.new) }
+        ensures stays { (act : Action) → length self.new.queues ≡ length (after a.now.state act).chains }
     {
         self.take(a)
     }

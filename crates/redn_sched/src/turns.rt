@@ -1,50 +1,22 @@
-ghost use Rattle.std.specs.Prelude.{◌≡◌, ◌<◌, ◌&&◌, nat_le, nat_lt, length, map, replicate, slice_get, IfOk};
+ghost use Rattle.std.specs.Prelude.{◌≡◌, ◌+◌, ◌-◌, ◌%◌, ◌^◌, ◌<◌, length, replicate, IfOk};
 ghost use Rattle.std.specs.List.{find};
-ghost use Rattle.redn_words.specs.States.{State};
-ghost use Rattle.redn_sched.specs.MadeView.{chain_queues};
-ghost use Rattle.redn_sched.specs.MadeSchedules.{is_of, queues_of, cyclically, queue_action, queue_acts, chain_acts};
+ghost use Rattle.redn_sched.specs.MadeSchedules.{queues_of, cyclically, queue_action, queue_acts, chain_acts};
+ghost use Rattle.redn_sched.specs.Nearest.{turn_of, is_nearer, nearest};
 
 use redn_adapter::Adapter;
-use redn_words::{Action, Memory};
+use redn_words::Action;
 use std::alloc::{AllocError, Global};
 
-/// A chain's queues, by rising number, and the number from which on the next one is looked for.
-#[derive(Drop)]
-pub struct Turns {
-    pub queues: Vec<u32>,
-    pub cursor: u32,
-}
-
-/// Whether a queue is there and is this chain's.
-fn is_of(a: &Adapter, queue: u32, chain: u32) -> bool
-    ensures { result ≡ is_of chain (slice_get a.now.state.queues queue) }
+/// Of each chain of an adapter the number from which on its next queue is looked for, before the first
+/// action.
+pub fn first_cursors(alloc: Global, a: &Adapter) -> Result<Vec<u32>, AllocError>
+    ensures { IfOk result (λ v. v.items ≡ replicate (length a.now.state.chains) 0) }
 {
-    match a.row(queue) {
-        Some(row) => u32::from(row.domain) == chain,
-        None => false,
+    let mut cursors = Vec::new(alloc);
+    for _ in 0..a.chain_count() {
+        cursors.push(0)?;
     }
-}
-
-/// A chain's queues, by rising number.
-fn queues_of(alloc: Global, a: &Adapter, chain: u32) -> Result<Vec<u32>, AllocError>
-    ensures { IfOk result (λ v. v.items ≡ queues_of a.now.state chain) }
-{
-    (0..a.queue_count())
-        .filter(|queue| is_of(a, *queue, chain))
-        .collect(alloc)
-}
-
-/// The queues of each chain of an adapter, before the first action.
-pub fn first_turns(alloc: Global, a: &Adapter) -> Result<Vec<Turns>, Memory>
-    ensures queues { IfOk result (λ v. map (λ t. t.queues.items) v.items ≡ chain_queues a.now.state) }
-    ensures cursors { IfOk result (λ v. map (λ t. t.cursor) v.items ≡ replicate (length a.now.state.chains) 0) }
-{
-    let mut turns = Vec::new(alloc);
-    for chain in 0..a.chain_count() {
-        let queues = queues_of(alloc, a, chain)?;
-        turns.push(Turns { queues, cursor: 0 })?;
-    }
-    Ok(turns)
+    Ok(cursors)
 }
 
 /// The first of a queue's actions in turn that is possible: the oldest request completes, the oldest
@@ -80,42 +52,49 @@ fn queue_acts(a: &Adapter, queue: u32) -> bool
     queue_action(a, queue).is_some()
 }
 
-/// The first of these queues from a number on that has a useful action.
-fn acting_from(a: &Adapter, queues: &[u32], cursor: u32) -> Option<u32>
-    ensures { result ≡ find (λ q. nat_le cursor q && queue_acts a.now.state q) queues.now }
+/// How far a queue comes behind a cursor, where those below the cursor come after all others.
+fn turn_of(cursor: u32, queue: u32) -> u32
+    ensures { result ≡ turn_of cursor queue }
 {
-    queues
-        .iter()
-        .copied()
-        .find(|queue| cursor <= *queue && queue_acts(a, *queue))
+    queue.wrapping_sub(cursor)
 }
 
-/// The first of these queues below a number that has a useful action.
-fn acting_below(a: &Adapter, queues: &[u32], cursor: u32) -> Option<u32>
-    ensures { result ≡ find (λ q. nat_lt q cursor && queue_acts a.now.state q) queues.now }
+/// Whether a queue comes before another one, or there is no other.
+fn is_nearer(cursor: u32, queue: u32, other: Option<u32>) -> bool
+    ensures { result ≡ is_nearer cursor queue other }
 {
-    queues
-        .iter()
-        .copied()
-        .find(|queue| *queue < cursor && queue_acts(a, *queue))
-}
-
-/// The first of a chain's queues, from its cursor on and then from the least on, that has a useful
-/// action.
-pub fn active_queue(a: &Adapter, turns: &Turns) -> Option<u32>
-    ensures { result ≡ find (queue_acts a.now.state) (cyclically turns.now.cursor turns.now.queues.items) }
-{
-    match acting_from(a, &turns.queues, turns.cursor) {
-        Some(queue) => Some(queue),
-        None => acting_below(a, &turns.queues, turns.cursor),
+    match other {
+        Some(other) => turn_of(cursor, queue) < turn_of(cursor, other),
+        None => true,
     }
 }
 
-/// Whether a chain may be taken, by the queues of all chains.
-pub fn chain_acts(a: &Adapter, turns: &[Turns], chain: u32) -> bool
-    requires queues { map (λ t. t.queues.items) turns.now ≡ chain_queues a.now.state }
-    requires there { chain < length a.now.state.chains }
+/// A queue, where it has a useful action and comes before the one that was found so far; else that one.
+fn nearest(a: &Adapter, cursor: u32, queue: u32, first: Option<u32>) -> Option<u32>
+    ensures { result ≡ nearest a.now.state cursor queue first }
+{
+    if is_nearer(cursor, queue, first) && queue_acts(a, queue) {
+        Some(queue)
+    } else {
+        first
+    }
+}
+
+/// The first of a chain's queues, from a number on and then from the least on, that has a useful
+/// action. Only busy queues are looked at.
+pub fn active_queue(a: &Adapter, chain: u32, cursor: u32) -> Option<u32>
+    ensures { result ≡ find (queue_acts a.now.state) (cyclically cursor (queues_of a.now.state chain)) }
+{
+    let mut first = None;
+    for queue in a.busy(chain) {
+        first = nearest(a, cursor, *queue, first);
+    }
+    first
+}
+
+/// Whether a chain may be taken.
+pub fn chain_acts(a: &Adapter, chain: u32) -> bool
     ensures { result ≡ chain_acts a.now.state chain }
 {
-    a.possible(Action::Deliver { chain }) || active_queue(a, &turns[chain as usize]).is_some()
+    a.possible(Action::Deliver { chain }) || active_queue(a, chain, 0).is_some()
 }

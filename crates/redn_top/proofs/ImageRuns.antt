@@ -4,10 +4,8 @@ use Rattle.std.specs.Prelude.{Option, Some, None, Result, Ok, Err, OnOk, IfErr}
 use Rattle.std.specs.Option.{option_map}
 use Rattle.redn_words.specs.declared.types.Action.{Action}
 use Rattle.redn_words.specs.States.{State}
-use Rattle.redn_sched.specs.MadeSchedules.{fair}
-use Rattle.redn_sched.specs.MadeView.{first_making}
-use Rattle.redn_sched.specs.Shuffles.{shuffled}
-use Rattle.redn_sched.specs.ShuffleView.{first_shuffled}
+use Rattle.redn_sched.specs.MadeSchedules.{first_cursors, fair}
+use Rattle.redn_sched.specs.Shuffles.{first_shuffling, shuffled}
 use Rattle.redn_top.specs.declared.run.Maker.{Maker}
 use Rattle.redn_top.specs.declared.run.Maker.TheVariants as maker
 use Rattle.redn_outside.specs.Seen.{SinkSeen}
@@ -152,8 +150,8 @@ module _ (image : Image) (words : List MessageWord) (plan : Plan) (before : Sink
 pub planned_is : (p : Plan) (s : State) (m : Maker) → IsMakerOf p s (Some m) → made_from (steps_asked p) s m ≡ planned p s
 unfolding fair shuffled
 planned_is (Schedule file) s m h = absurd (cc)
-planned_is (Fair n) s m h = let e : m ≡ maker.Fair (first_making s) = cc in subst (λ (x : Maker). made_from n s x ≡ fair n s) (sym e) refl
-planned_is (Shuffle z n) s m h = let e : m ≡ maker.Shuffle (first_shuffled s z) = cc in subst (λ (x : Maker). made_from n s x ≡ shuffled n z s) (sym e) refl
+planned_is (Fair n) s m h = let e : m ≡ maker.Fair (first_cursors s) = cc in subst (λ (x : Maker). made_from n s x ≡ fair n s) (sym e) refl
+planned_is (Shuffle z n) s m h = let e : m ≡ maker.Shuffle (first_shuffling s z) = cc in subst (λ (x : Maker). made_from n s x ≡ shuffled n z s) (sym e) refl
 
 module _ (s t : State) (n m : ℕ) (xs ys : List Action) (states : s ≡ t) (steps : n ≡ m) (lists : xs ≡ ys) where
   pub refused_as : (before now : SinkSeen) (e : Status) → MadeRefused s n xs before now e → MadeRefused t m ys before now e

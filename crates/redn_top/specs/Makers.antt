@@ -12,10 +12,8 @@ use Rattle.redn_sched.specs.declared.text.Numbered.{Numbered}
 use Rattle.redn_sched.specs.declared.reader.Got.{Got}
 use Rattle.redn_sched.specs.declared.reader.Got.TheVariants.{More, Action as AnAction, Bad}
 use Rattle.redn_sched.specs.ScheduleText.{lines_of, Reads}
-use Rattle.redn_sched.specs.MadeSchedules.{fair_from}
-use Rattle.redn_sched.specs.MadeView.{chain_queues, first_making}
-use Rattle.redn_sched.specs.Shuffles.{shuffled_from}
-use Rattle.redn_sched.specs.ShuffleView.{first_shuffled}
+use Rattle.redn_sched.specs.MadeSchedules.{first_cursors, fair_from}
+use Rattle.redn_sched.specs.Shuffles.{first_shuffling, shuffled_from}
 use Rattle.redn_command.specs.Words.{Plan, Schedule, Fair, Shuffle}
 use Rattle.redn_top.specs.declared.run.Maker.{Maker}
 use Rattle.redn_top.specs.declared.run.Maker.TheVariants as maker
@@ -50,16 +48,16 @@ pub record RanAll (s : State) (text : List ℕ) (told told_now : Option (List �
 
 -- at most n actions from a state on
 abbrev pub made_from : ℕ → State → Maker → List Action
-made_from n s (maker.Fair m) = fair_from n s m.cursors
-made_from n s (maker.Shuffle m) = shuffled_from n s m.at
+made_from n s (maker.Fair m) = fair_from n s m
+made_from n s (maker.Shuffle m) = shuffled_from n s m
 
 -- it makes the actions of an adapter in this state
 abbrev pub IsFor : Maker → State → Type 0
-IsFor (maker.Fair m) s = m.queues ≡ chain_queues s
-IsFor (maker.Shuffle m) s = m.queues ≡ chain_queues s
+IsFor (maker.Fair m) s = length m.queues ≡ length s.chains
+IsFor (maker.Shuffle m) s = length m.queues ≡ length s.chains
 
 -- it makes the actions of a plan from its first one on
 abbrev pub IsMakerOf : Plan → State → Option Maker → Type 0
 IsMakerOf (Schedule file) s o = o ≡ None
-IsMakerOf (Fair steps) s o = o ≡ Some (maker.Fair (first_making s))
-IsMakerOf (Shuffle number steps) s o = o ≡ Some (maker.Shuffle (first_shuffled s number))
+IsMakerOf (Fair steps) s o = o ≡ Some (maker.Fair (first_cursors s))
+IsMakerOf (Shuffle number steps) s o = o ≡ Some (maker.Shuffle (first_shuffling s number))

@@ -1,4 +1,4 @@
-use Rattle.std.proofs.Common.{◌≡◌, ◌≤◌, ◌+◌, ◌-◌, ◌^◌, ◌<◌, List, ℕ, Option, Vec, Global, [], length, map, refl, sym, ap, ◌∙◌, arith}
+use Rattle.std.proofs.Common.{◌≡◌, ◌≤◌, ◌+◌, ◌-◌, ◌^◌, ◌<◌, List, ℕ, Option, Vec, Global, [], length, map, refl, sym, ap, subst, ◌∙◌, arith}
 use Rattle.std.specs.Option.{option_map}
 use Rattle.std.proofs.lemmas.List.Elements.{All-map, All-weaker}
 use Rattle.redn_words.specs.declared.types.Region.{Region}
@@ -8,11 +8,12 @@ use Rattle.redn_image.specs.Rules.{Image as Parts}
 use Rattle.std.proofs.lemmas.List.{length-map}
 use Rattle.redn_image.specs.View.{image_view}
 use Rattle.redn_adapter.specs.AdapterView.{IsRing, IsQueueAt}
+use Rattle.redn_adapter.specs.Busy.{KeepsBusy}
 use Rattle.redn_adapter.specs.Opening.{misfits}
 use Rattle.redn_adapter.proofs.Images.{image_inside, keys_differ, mails_fit}
 use Rattle.redn_words.proofs.Misfits.{none_first}
 use Rattle.redn_adapter.proofs.adapter.open.Goals as goal
-use Rattle.redn_adapter.proofs.adapter.open.Goals.{After-i, In_default}
+use Rattle.redn_adapter.proofs.adapter.open.Goals.{After-i, In_default, In_ok-chains}
 
 pub first_misfit-requires-clause-few : goal.first_misfit-requires-clause-few
 first_misfit-requires-clause-few c =
@@ -65,6 +66,7 @@ invariant_of-result c =
             domains = All-map (λ (u : Queue). u.row.domain < length a.receives.items) fresh_queue a.queues.items inside.domains;
           };
       places = chains_length;
+      busy = subst (λ (n : ℕ). KeepsBusy c.in_ok-busy.busy n c.in_ok-queues.queues.items) (omega (arith, c.len.ensures, c.in_ok-chains.chains.ok)) (rw c.deref-4.ensures.value at c.in_ok-busy.ensures);
       mails = λ k l. rw c.in_ok-chains.ensures (mails_fit 0 a.receives.items messages (no_misfit at) k);
       queues = rw rows (All-map (IsQueueAt size 0) fresh_queue a.queues.items (All-weaker (IsRing size) (λ (row : QueueRow). IsQueueAt size 0 (fresh_queue row)) ring a.queues.items inside.queues));
     }
@@ -78,3 +80,28 @@ returns-clause-state c =
 pub returns-clause-fits : goal.returns-clause-fits
 unfolding messages_of
 returns-clause-fits c = rw (← c.i.view_is, ← c.ms.view_is) (no_misfit (goal.at.returns-clause-fits c).In_default)
+
+-- as many chains as places
+many_chains : (c : In_ok-chains) → length c.in_ok-chains.chains.items ≡ length c.i.inside.receives.items
+unfolding messages_of
+many_chains c =
+    let messages = messages_of c.ms.inside.list.items in
+    ap length c.in_ok-chains.ensures ∙ length-map messages fresh_chain ∙ ap length c.ms.view_is ∙ c.requires ∙ sym (ap (λ (i : Parts). length i.receives) c.i.view_is)
+
+pub overflow_cast-len : goal.overflow_cast-len
+overflow_cast-len c =
+    let inside = image_inside (image_view c.i.inside) c.i.invariant in
+    omega (arith, inside.few, many_chains (goal.at.overflow_cast-len c).In_ok-chains, c.len.ensures, c.in_ok-chains.chains.ok)
+
+pub first_busy-requires-clause-few : goal.first_busy-requires-clause-few
+first_busy-requires-clause-few c =
+    let inside = image_inside (image_view c.i.inside) c.i.invariant in
+    omega (arith, inside.few_queues, length-map c.i.inside.queues.items fresh_queue, ap length c.deref-4.ensures.value, ap length c.in_ok-queues.ensures, ap (λ (rows : List QueueRow). length (map fresh_queue rows)) c.deref-3.ensures.value)
+
+pub first_busy-requires-clause-domains : goal.first_busy-requires-clause-domains
+first_busy-requires-clause-domains c =
+    let inside = image_inside (image_view c.i.inside) c.i.invariant in
+    let many = many_chains (goal.at.first_busy-requires-clause-domains c).In_ok-chains in
+    let n : c.len.result ≡ length c.i.inside.receives.items = omega (arith, c.len.ensures, c.in_ok-chains.chains.ok, many) in
+    let rows = rw c.deref-3.ensures.value at c.in_ok-queues.ensures in
+    rw (c.deref-4.ensures.value, rows, n) (All-map (λ (u : Queue). u.row.domain < length c.i.inside.receives.items) fresh_queue c.i.inside.queues.items inside.domains)

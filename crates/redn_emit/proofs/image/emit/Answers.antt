@@ -135,4 +135,4 @@ returns c =
     let queues : c.in_ok-queues.queues.items ≡ placed.queues p graphs = c.in_ok-queues.ensures ∙ (λ i. map (entry_row (entries i)) ((c.deref-5.ensures.value ∙ plans) i) ++ flat_map ring_rows ((c.deref-5.ensures.value ∙ plans) i)) in
     let receives : c.in_ok-receives.receives.items ≡ map receive (placed.plans p graphs) = c.in_ok-receives.ensures ∙ ap (map receive) (c.deref-6.ensures.value ∙ plans) in
     let memory : c.in_ok-memory.memory.items ≡ placed.memory p graphs = c.in_ok-memory.ensures ∙ (λ i. flat_map (λ (x : ChainPlan). chain_code x ((c.deref-8.ensures.value ∙ tables) i)) ((c.deref-7.ensures.value ∙ plans) i) ++ (flat_map entry_bytes ((c.deref-7.ensures.value ∙ plans) i) ++ (flat_map chain_words ((c.deref-7.ensures.value ∙ plans) i) ++ flat_map (λ (t : TableInit). t.bytes) (c.as_slice-3.ensures i)))) in
-    record { placed = record { regions_are = regions; queues_are = queues; receives_are = receives; memory_is = memory } }
+    record { placed = record { regions_are = regions; queues_are = queues; receives_are = receives; memory_is = memory }; words = c.graphs_words.ensures }

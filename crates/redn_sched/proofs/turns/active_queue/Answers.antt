@@ -1,16 +1,23 @@
-use Rattle.std.proofs.Common.{sym, ◌∙◌}
-use Rattle.redn_sched.specs.MadeSchedules.{queue_acts}
-use Rattle.redn_sched.proofs.Turning.{found_on, found_below}
+use Rattle.std.proofs.Common.{◌<◌, ◌^◌, ℕ, List, get_or, length, take, refl, subst, ap, sym, ◌∙◌, arith}
+use Rattle.std.specs.List.{All}
+use Rattle.std.proofs.lemmas.List.{take_all, get_or_default}
+use Rattle.redn_sched.proofs.Nearest.{IsFirst, none_seen, one_more_seen, listed_is_its, nearest_is}
 use Rattle.redn_sched.proofs.turns.active_queue.Goals as goal
 
-pub returns-in-Some : goal.returns-in-Some
-returns-in-Some c =
-    let turns = c.args.turns.now in
-    let e = rw c.deref.ensures.value at (sym c.acting_from.ensures ∙ c.in-Some.is) in
-    sym (found_on (queue_acts c.args.a.now.state) turns.cursor turns.queues.items c.in-Some.queue e)
+pub loop-queue-init : goal.loop-queue-init
+loop-queue-init c = record { found = none_seen c.args.a.now.state c.args.chain c.args.cursor; words = λ i. (c.type_inv.queue-items i).fits }
 
-pub returns-in-None : goal.returns-in-None
-returns-in-None c =
-    let turns = c.args.turns.now in
-    let e = rw c.deref.ensures.value at (sym c.acting_from.ensures ∙ c.in-None.is) in
-    rw c.deref-in-None.ensures.value at c.acting_below.ensures ∙ sym (found_below (queue_acts c.args.a.now.state) turns.cursor turns.queues.items e)
+pub loop-queue-preserved : goal.loop-queue-preserved
+loop-queue-preserved c =
+    let s = c.args.a.now.state in
+    let list = c.busy-queue-items.result.now in
+    let i = c.loop-queue.queue-index in
+    rw c.nearest-first.ensures record { found = one_more_seen s c.args.chain c.args.cursor list i (get_or list i 0) c.loop-queue-test.true refl (listed_is_its s c.args.chain list c.busy-queue-items.ensures i c.loop-queue-test.true) (c.loop-queue.invariant.words i) c.loop-queue.first c.loop-queue.invariant.found; words = c.loop-queue.invariant.words }
+
+pub returns : goal.returns
+returns c =
+    let s = c.args.a.now.state in
+    let list = c.busy-queue-items.result.now in
+    let words : All (λ (q : ℕ). q < 2 ^ 32) list = λ k d l. let h = c.loop-queue.invariant.words k in omega (arith, h, get_or_default list k d 0 l) in
+    nearest_is s c.args.chain c.args.cursor list c.busy-queue-items.ensures words c.ranges.cursor.fits c.loop-queue.first
+    (subst (λ (seen : List ℕ). IsFirst s c.args.chain c.args.cursor seen c.loop-queue.first) (take_all c.loop-queue.queue-index list c.loop-queue-test.false) c.loop-queue.invariant.found)

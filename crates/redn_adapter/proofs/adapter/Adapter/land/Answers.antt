@@ -1,4 +1,9 @@
-use Rattle.std.proofs.Common.{◌≡◌, ◌+◌, ◌<◌, true, length, get_or, set, refl, sym, ap, ◌∙◌}
+use Rattle.std.proofs.Common.{◌≡◌, ◌+◌, ◌<◌, ◌≤◌, true, length, get_or, set, refl, sym, ap, ◌∙◌, arith}
+use Rattle.std.proofs.lemmas.Bool.{true≢false}
+use Rattle.redn_words.proofs.Flights.{length-landed}
+use Rattle.redn_adapter.specs.Busy.{is_busy}
+use Rattle.redn_adapter.proofs.Marking.{still_busy, same_flights}
+use Rattle.redn_adapter.proofs.Stepping.{queue_steps}
 use Rattle.std.specs.Vec.{with_items, with_item}
 use Rattle.std.proofs.lemmas.List.{with_items_is, get_or_read}
 use Rattle.redn_words.specs.declared.types.Action.TheVariants.{Land}
@@ -93,3 +98,26 @@ unfolding before
 returns-in-Refused-clause-shown c =
     let at = (goal.at.returns-in-Refused-clause-shown c).After-land in
     rw (← c.self.view_is) (taken_shown (before at) (Land c.args.queue c.args.index) c.in-Refused.shown (possible_here at) (refused_shows (before at) c.args.queue c.args.index c.in_ok-u.u.now _ (answered at) (facts at) c.in-Refused.shown (sym (said at) ∙ c.in-Refused.is)))
+
+as_large : (c : After-land) → length (with_items c.self.inside.memory c.land.new.mem).items ≡ length c.self.inside.memory.items
+as_large c = ap length (with_items_is c.self.inside.memory c.land.new.mem (c.land.auto.mem ∙ c.deref_mut.ensures.len)) ∙ c.land.auto.mem ∙ ap length c.deref_mut.ensures.value
+
+pub invariant_of-self : goal.invariant_of-self
+invariant_of-self c =
+    let at = (goal.at.invariant_of-self c).After-land in
+    let a = c.self.inside in
+    let u = c.index_mut.result.now in
+    let v = c.mark_landed.new.self in
+    let is = c.mark_landed.ensures in
+    queue_steps a c.args.queue u v (with_items a.memory c.land.new.mem) a.busy c.self.invariant (as_large at) (there at) c.index_mut.ensures.value (ap (λ (w : Queue). w.row) is) (omega (arith, ap (λ (w : Queue). w.head) is)) (omega (arith, ap (λ (w : Queue). w.counter) is))
+    (still_busy a.busy (length a.chains.items) a.queues.items c.args.queue u v c.self.invariant.busy (there at) c.index_mut.ensures.value (ap (λ (w : Queue). w.row.domain) is) (λ e. sym (same_flights u v (ap (λ (w : Queue). w.stopped) is) (ap (λ (w : Queue). w.head) is) (ap (λ (w : Queue). w.limit) is) (ap (λ (w : Queue). w.held) is) (ap (λ (w : Queue). length w.flights) is ∙ length-landed c.args.index u.flights)) ∙ e))
+
+pub invariant_of-self-in-Refused : goal.invariant_of-self-in-Refused
+invariant_of-self-in-Refused c =
+    let at = (goal.at.invariant_of-self-in-Refused c).After-land in
+    let a = c.self.inside in
+    let u = c.index_mut-in-Refused.result.now in
+    let v = c.stop.new.self in
+    let is = c.stop.ensures in
+    queue_steps a c.args.queue u v (with_items a.memory c.land.new.mem) a.busy c.self.invariant (as_large at) (there at) c.index_mut-in-Refused.ensures.value (ap (λ (w : Queue). w.row) is) (omega (arith, ap (λ (w : Queue). w.head) is)) (omega (arith, ap (λ (w : Queue). w.counter) is))
+    (still_busy a.busy (length a.chains.items) a.queues.items c.args.queue u v c.self.invariant.busy (there at) c.index_mut-in-Refused.ensures.value (ap (λ (w : Queue). w.row.domain) is) (λ e. absurd (true≢false (sym e ∙ ap is_busy is))))

@@ -1,18 +1,14 @@
 use Rattle.std.proofs.Common.{◌≡◌, ◌≤◌, length, sym, ap, ◌∙◌, arith}
-use Rattle.redn_sched.specs.MadeSchedules.{chain_acts}
-use Rattle.redn_sched.specs.MadeView.{Making, chain_queues}
+use Rattle.redn_sched.specs.MadeSchedules.{Cursors, chain_acts}
 use Rattle.redn_sched.proofs.Turning.{turned_on, turned_below, below_more}
-use Rattle.redn_sched.proofs.Chains.{kept, as_many}
 use Rattle.redn_sched.proofs.fair.Fair.acting_chain.Goals as goal
 use Rattle.redn_sched.proofs.fair.Fair.acting_chain.Goals.{After-first_acting}
 
 within : (c : After-first_acting) → c.self.inside.chain ≤ length c.args.a.now.state.chains
-within c =
-    let same : kept c.self.inside.turns.items ≡ chain_queues c.args.a.now.state = ap (λ (m : Making). m.queues) c.self.view_is ∙ c.requires.queues in
-    omega (arith, c.self.invariant, as_many c.self.inside.turns.items c.args.a.now.state same)
+within c = omega (arith, c.self.invariant, ap (λ (k : Cursors). length k.queues) c.self.view_is, c.requires.many)
 
-pub first_acting-requires-in-None-clause-there : goal.first_acting-requires-in-None-clause-there
-first_acting-requires-in-None-clause-there c = within (goal.at.first_acting-requires-in-None-clause-there c).After-first_acting
+pub first_acting-requires-in-None : goal.first_acting-requires-in-None
+first_acting-requires-in-None c = record { there = within (goal.at.first_acting-requires-in-None c).After-first_acting }
 
 pub returns-in-Some-clause-value : goal.returns-in-Some-clause-value
 returns-in-Some-clause-value c =

@@ -1,5 +1,5 @@
-use Rattle.std.proofs.Common.{◌≡◌, ℕ, suc, ◌+◌, ◌-◌, List, [], ◌∷◌, ◌++◌, append_assoc, sym, ap, ◌∙◌, arith, refl}
-use Rattle.std.proofs.lemmas.List.{append-nil}
+use Rattle.std.proofs.Common.{◌≡◌, ℕ, suc, ◌+◌, ◌-◌, List, [], ◌∷◌, ◌++◌, length, append_assoc, sym, ap, ◌∙◌, arith, refl}
+use Rattle.std.proofs.lemmas.List.{append-nil, length-replicate}
 use Rattle.redn_words.specs.declared.types.Action.{Action}
 use Rattle.redn_sched.specs.MadeSchedules.{fair, fair_from}
 use Rattle.redn_top.proofs.tests.fair.fair_list.Goals as goal
@@ -9,7 +9,7 @@ unfolding fair
 loop-made-init c =
     let s = c.args.adapter.now.state in
     let all : c.args.most - 0 ≡ c.args.most = omega arith in
-    rw (c.new-actions.ensures.items, c.in_ok-schedule.ensures.first) record { list = rw all refl; queues = refl; steps = omega arith }
+    rw (c.new-actions.ensures.items, c.in_ok-schedule.ensures) record { list = rw all refl; queues = length-replicate (length s.chains) 0; steps = omega arith }
 
 pub loop-made-preserved : goal.loop-made-preserved
 loop-made-preserved c =
@@ -22,7 +22,7 @@ loop-made-preserved c =
       list =
           append_assoc acts (c.in-Some.action ∷ []) _
           ∙ ap (λ (xs : List Action). acts ++ xs) (sym (c.in-Some.ensures.list m))
-          ∙ ap (λ (n : ℕ). acts ++ fair_from n r.adapter.state r.schedule.cursors) (sym one)
+          ∙ ap (λ (n : ℕ). acts ++ fair_from n r.adapter.state r.schedule) (sym one)
           ∙ r.invariant.list;
       queues = c.in-Some.ensures.stays c.in-Some.action;
       steps = omega (arith, r.invariant.steps);
@@ -36,7 +36,7 @@ returns-in_default c =
     let acts : List Action = r.actions.items in
     sym (append-nil acts)
     ∙ ap (λ (xs : List Action). acts ++ xs) (sym (c.in_default.ensures.list m))
-    ∙ ap (λ (n : ℕ). acts ++ fair_from n r.adapter.state r.schedule.cursors) (sym one)
+    ∙ ap (λ (n : ℕ). acts ++ fair_from n r.adapter.state r.schedule) (sym one)
     ∙ r.invariant.list
 
 pub returns : goal.returns
@@ -44,4 +44,4 @@ returns c =
     let r = c.loop-made in
     let acts : List Action = r.actions.items in
     let none : c.args.most - r._made ≡ 0 = omega (arith, c.loop-made-test.false) in
-    sym (append-nil acts) ∙ ap (λ (n : ℕ). acts ++ fair_from n r.adapter.state r.schedule.cursors) (sym none) ∙ r.invariant.list
+    sym (append-nil acts) ∙ ap (λ (n : ℕ). acts ++ fair_from n r.adapter.state r.schedule) (sym none) ∙ r.invariant.list

@@ -1,8 +1,9 @@
-use Rattle.std.proofs.Common.{arith, refl}
+use Rattle.std.proofs.Common.{length, arith}
+use Rattle.std.proofs.lemmas.List.{length-replicate}
 use Rattle.redn_top.proofs.tests.schedules.shuffled_list.Goals as goal
 
 pub loop-made-init : goal.loop-made-init
-loop-made-init c = rw c.in_ok-schedule.ensures.first record { queues = refl; steps = omega arith }
+loop-made-init c = rw c.in_ok-schedule.ensures record { queues = length-replicate (length c.args.adapter.now.state.chains) 0; steps = omega arith }
 
 pub loop-made-preserved : goal.loop-made-preserved
 loop-made-preserved c =

@@ -1,0 +1,5 @@
+#![tactic(auto)]
+
+mod marks;
+
+pub use marks::Marks;

@@ -1,0 +1,25 @@
+pub mod Keys
+pub mod Places
+pub mod Tables
+pub mod Chains
+pub mod Spaces
+pub mod Homes
+pub mod Fields
+pub mod Pieces
+pub mod BlockDrafts
+pub mod Numbers
+pub mod Named
+pub mod Narrow
+pub mod Small
+pub mod Lengths
+pub mod Whole
+pub mod Granted
+pub mod Beside
+pub mod Portions
+pub mod Coded
+pub mod Began
+pub mod FirstSeen
+pub mod FirstBytes
+pub mod RingBlocks
+pub mod Queues
+mod Worked

@@ -1,0 +1,5 @@
+pub mod Layouts
+pub mod Laws
+pub mod Beginning
+pub mod Rows
+pub mod Rings
