@@ -1,1 +1,1 @@
-pub mod FirstImage
+pub mod Units

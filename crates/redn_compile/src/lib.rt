@@ -3,8 +3,8 @@
 #![tactic(auto)]
 
 mod image;
-mod requests;
-mod shape;
+mod numbers;
+mod units;
 
 pub use image::compile;
-pub use shape::has_first_shape;
+pub use units::units_are_runs;

@@ -2,7 +2,6 @@
 use Rattle.std.proofs.Common.{◌≡◌, ℕ, List, inl, inr, refl, sym, ap, subst, ◌∙◌}
 use Rattle.std.specs.Prelude.{Some, None}
 use Rattle.redn_kernel.specs.declared.types.Program.{Program}
-use Rattle.redn_compile.specs.FirstImage.{HasFirstShape}
 use Rattle.redn_image.specs.declared.numbers.Fault.{Fault}
 use Rattle.redn_image.specs.Rules.{Numbers}
 use Rattle.redn_disasm.specs.Assembly.{Assembles, Outcome, Made, WrongLine, BreaksRule}
@@ -13,7 +12,7 @@ use Rattle.redn_image.specs.Spelling.{refused}
 use Rattle.redn_top.specs.declared.status.Status.{Status}
 use Rattle.redn_top.specs.declared.status.Status.TheVariants.{Done, Words, Schedule as BadSchedule, ReadFailed, Missing, WriteFailed, Long, Text, Program as ProgramRefused, Image, Memory, Step, Message, NotBuilt}
 use Rattle.redn_top.specs.Sources.{IsTextOf, Means}
-use Rattle.redn_top.specs.Reasons.{Nil, Or, Never, NoneHolds, no_tree, no_program, other_shape, wrong_line, source_reasons, program_reasons, image_reasons, listing_reasons, First}
+use Rattle.redn_top.specs.Reasons.{Nil, Or, Never, NoneHolds, no_tree, no_program, wrong_line, source_reasons, image_reasons, listing_reasons, First}
 use Rattle.redn_top.specs.Refusals.{Refuses, SourceRefused}
 use Rattle.redn_top.proofs.FirstReason.{first_here, first_behind, refuses_map, same_text}
 
@@ -33,18 +32,6 @@ module _ (text : List ℕ) where
   pub means_none : (p : Program) → Means text p → NoneHolds (source_reasons (Some text))
   means_none p means = (never_no_tree means.file means.read, (never_no_program p means, tt))
 
-  never_other_shape : (p : Program) → ((q : Program) → Means text q → p ≡ q) → HasFirstShape p → Never (other_shape (Some text))
-  never_other_shape p only shape s h =
-      let same = same_text text h.0 h.1 in
-      h.2.0.2 (subst HasFirstShape (only h.2.0.0 (subst (λ (t : List ℕ). Means t h.2.0.0) (sym same) h.2.0.1)) shape)
-
-  pub shape_none : (p : Program) → Means text p → ((q : Program) → Means text q → p ≡ q) → HasFirstShape p → NoneHolds (program_reasons (Some text))
-  shape_none p means only shape = (never_no_tree means.file means.read, (never_no_program p means, (never_other_shape p only shape, tt)))
-
-  pub shape_first : (p : Program) → Means text p → (HasFirstShape p → ⊥) → Refuses (program_reasons (Some text)) NotBuilt
-  shape_first p means not =
-      first_behind (source_reasons (Some text)) (Or (other_shape (Some text)) Nil) NotBuilt (means_none p means) (inl (text, refl, ((p, means, not), refl)))
-
   pub source_refused : (s : Status) → SourceRefused text s → Refuses (source_reasons (Some text)) s
   source_refused Memory h = tt
   source_refused (Text fault) h = inl (text, refl, (fault, h, refl))
@@ -60,10 +47,6 @@ module _ (text : List ℕ) where
   source_refused NotBuilt h = absurd h
   source_refused Words h = absurd h
   source_refused (BadSchedule number) h = absurd h
-
-  pub program_refused : (s : Status) → SourceRefused text s → Refuses (program_reasons (Some text)) s
-  program_refused s h =
-      refuses_map (source_reasons (Some text)) (program_reasons (Some text)) (first_here (source_reasons (Some text)) (Or (other_shape (Some text)) Nil)) s (source_refused s h)
 
   -- a listing with an image has no wrong line and breaks no rule, and one that breaks a rule has no wrong line
   never_wrong_line : OneMeaning → (a : Outcome) → Assembles text a → ((n : ℕ) → a ≡ WrongLine n → ⊥) → Never (wrong_line (Some text))

@@ -20,7 +20,7 @@ use Rattle.redn_top.specs.declared.status.Status.{Status}
 use Rattle.redn_top.specs.declared.status.Status.TheVariants.{Done, Words, Schedule as BadSchedule, ReadFailed, Missing, WriteFailed, Long, Text, Program as ProgramRefused, Image as ImageRefused, Memory, Step, Message, NotBuilt}
 use Rattle.redn_command.specs.Words.{Command, Check, Compile, Disasm, Assemble}
 use Rattle.redn_top.specs.Sources.{IsTextOf, Means}
-use Rattle.redn_top.specs.Reasons.{Input, IsInput, NoneHolds, First, read_reasons, source_reasons, program_reasons, image_reasons, listing_reasons, reasons}
+use Rattle.redn_top.specs.Reasons.{Input, IsInput, NoneHolds, First, read_reasons, source_reasons, image_reasons, listing_reasons, reasons}
 use Rattle.redn_top.specs.Answers.{Written, Listed, Checked, Answered, Ends, with_written, status_of}
 use Rattle.redn_top.specs.Refusals.{IsHeld, ReadsRefuse, ReadRefused, Refuses, SourceRefused, LinesRefused, PutRefused, WriteRefused}
 use Rattle.redn_top.proofs.FirstReason.{first_here, first_behind, none_both, refuses_map, reads_map, read_passed}
@@ -63,7 +63,7 @@ module _ (c : Command) (before now : StoreSeen) (out : SinkSeen) (told : now.tol
   contents_end (Text fault) h = told_refusal (Text fault) h
   contents_end (ProgramRefused rule at seen) h = told_refusal (ProgramRefused rule at seen) h
   contents_end (ImageRefused fault) h = told_refusal (ImageRefused fault) h
-  contents_end NotBuilt h = told_refusal NotBuilt h
+  contents_end NotBuilt h = absurd h
   contents_end Words h = absurd h
   contents_end (BadSchedule number) h = absurd h
   contents_end ReadFailed h = absurd h
@@ -149,19 +149,19 @@ module _ (file name : List ℕ) (before mid : StoreSeen) (out : SinkSeen) (keeps
   pub compile_unread : (s : Status) → ReadRefused before.told file FILE_LIMIT before mid s → Ends (Compile file name) before mid out out s
   compile_unread s r =
       let i : Input = record { first = r.file; schedule = None } in
-      reads_end (Compile file name) before mid out keeps.told i r.found s (reads_map (read_reasons r.file FILE_LIMIT) (reasons (Compile file name) i) (first_here (read_reasons r.file FILE_LIMIT) (program_reasons r.file)) before mid s r.refuses)
+      reads_end (Compile file name) before mid out keeps.told i r.found s (reads_map (read_reasons r.file FILE_LIMIT) (reasons (Compile file name) i) (first_here (read_reasons r.file FILE_LIMIT) (source_reasons r.file)) before mid s r.refuses)
 
   module _ (text : List ℕ) (held : IsHeld before.told file FILE_LIMIT text) where
-    pub compile_refused : (s : Status) → Refuses (program_reasons (Some text)) s → Ends (Compile file name) before mid out out s
+    pub compile_refused : (s : Status) → Refuses (source_reasons (Some text)) s → Ends (Compile file name) before mid out out s
     unfolding one_file
     compile_refused s h =
         contents_end (Compile file name) before mid out keeps.told (one_file text) held.found s
-        (refuses_map (program_reasons (Some text)) (reasons (Compile file name) (one_file text)) (λ t. first_behind (read_reasons (Some text) FILE_LIMIT) (program_reasons (Some text)) t (read_passed text FILE_LIMIT held.fits)) s h)
+        (refuses_map (source_reasons (Some text)) (reasons (Compile file name) (one_file text)) (λ t. first_behind (read_reasons (Some text) FILE_LIMIT) (source_reasons (Some text)) t (read_passed text FILE_LIMIT held.fits)) s h)
 
-    module _ (p : Program) (means : Means text p) (accepted : NoneHolds (program_reasons (Some text))) (image : Image) (faithful : Faithful p image) (now : StoreSeen) where
+    module _ (p : Program) (means : Means text p) (accepted : NoneHolds (source_reasons (Some text))) (image : Image) (faithful : Faithful p image) (now : StoreSeen) where
       compile_none : NoneHolds (reasons (Compile file name) (one_file text))
       unfolding one_file
-      compile_none = none_both (read_reasons (Some text) FILE_LIMIT) (program_reasons (Some text)) (read_passed text FILE_LIMIT held.fits) accepted
+      compile_none = none_both (read_reasons (Some text) FILE_LIMIT) (source_reasons (Some text)) (read_passed text FILE_LIMIT held.fits) accepted
 
       pub compile_written : (r : Result (Unit {0}) Status) → OnOk r ((bytes : List ℕ) × Spells bytes image × (now.told ≡ option_map (with_file name bytes) mid.told)) → IfErr r (WriteRefused mid now) → Ends (Compile file name) before now out out (status_of r)
       unfolding one_file

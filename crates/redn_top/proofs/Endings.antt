@@ -17,7 +17,7 @@ use Rattle.redn_top.specs.declared.status.Status.{Status}
 use Rattle.redn_top.specs.declared.status.Status.TheVariants.{Done, Words, Schedule as BadSchedule, ReadFailed, Missing, WriteFailed, Long, Text, Program as ProgramRefused, Image as ImageRefused, Memory, Step, Message, NotBuilt}
 use Rattle.redn_top.specs.Sources.{Means}
 use Rattle.redn_top.specs.RunText.{planned}
-use Rattle.redn_top.specs.Reasons.{Input, IsInput, IsPlanInput, NoneHolds, First, read_reasons, plan_reads, run_reads, program_reasons, image_reasons, reasons}
+use Rattle.redn_top.specs.Reasons.{Input, IsInput, IsPlanInput, NoneHolds, First, read_reasons, plan_reads, run_reads, source_reasons, image_reasons, reasons}
 use Rattle.redn_top.specs.Answers.{Written, Compiled, Ran, RunsMade, IsMadePart, IsRunPart, opened, kept, with_written, Answered, LostLast, BrokeOff, Ends, Finishes, OthersStayThan, Spares, status_of}
 use Rattle.redn_top.specs.Refusals.{IsHeld, IsPlanHeld, HasText, IsRunnable, IsFew, MakesActions, ReadsRefuse, RunReadRefused, Refuses, ImageRan, MadeWhole, MadeStopped, WriteRefused, RunEnded, RunBroke, RunLost, RunEnds, run_of}
 use Rattle.redn_top.proofs.FirstReason.{first_here, first_behind, none_both, refuses_map, reads_map, read_passed, rose_from}
@@ -244,7 +244,7 @@ module _ (file name : List ℕ) (r : RunWords) (before mid : StoreSeen) (out : S
   go_unread s x =
       let i : Input = record { first = x.file; schedule = x.schedule } in
       reads_end (Go file name r) before mid out keeps.told i (x.found, x.schedule_found) s
-      (reads_map (run_reads x.file FILE_LIMIT r.plan x.schedule) (reasons (Go file name r) i) (first_here (run_reads x.file FILE_LIMIT r.plan x.schedule) (program_reasons x.file)) before mid s x.refuses)
+      (reads_map (run_reads x.file FILE_LIMIT r.plan x.schedule) (reasons (Go file name r) i) (first_here (run_reads x.file FILE_LIMIT r.plan x.schedule) (source_reasons x.file)) before mid s x.refuses)
 
   module _ (text : List ℕ) (schedule : Option (List ℕ)) (held : IsHeld before.told file FILE_LIMIT text) (plan_held : IsPlanHeld before.told r.plan schedule) where
     go_passed : NoneHolds (run_reads (Some text) FILE_LIMIT r.plan schedule)
@@ -254,16 +254,16 @@ module _ (file name : List ℕ) (r : RunWords) (before mid : StoreSeen) (out : S
     unfolding run_input
     go_is = (held.found, plan_input before.told r.plan schedule plan_held)
 
-    pub go_refused : (s : Status) → Refuses (program_reasons (Some text)) s → Ends (Go file name r) before mid out out s
+    pub go_refused : (s : Status) → Refuses (source_reasons (Some text)) s → Ends (Go file name r) before mid out out s
     unfolding run_input
     go_refused s h =
         contents_end (Go file name r) before mid out keeps.told (run_input text schedule) go_is s
-        (refuses_map (program_reasons (Some text)) (reasons (Go file name r) (run_input text schedule)) (λ t. first_behind (run_reads (Some text) FILE_LIMIT r.plan schedule) (program_reasons (Some text)) t go_passed) s h)
+        (refuses_map (source_reasons (Some text)) (reasons (Go file name r) (run_input text schedule)) (λ t. first_behind (run_reads (Some text) FILE_LIMIT r.plan schedule) (source_reasons (Some text)) t go_passed) s h)
 
-    module _ (p : Program) (means : Means text p) (accepted : NoneHolds (program_reasons (Some text))) where
+    module _ (p : Program) (means : Means text p) (accepted : NoneHolds (source_reasons (Some text))) where
       go_none : NoneHolds (reasons (Go file name r) (run_input text schedule))
       unfolding run_input
-      go_none = none_both (run_reads (Some text) FILE_LIMIT r.plan schedule) (program_reasons (Some text)) go_passed accepted
+      go_none = none_both (run_reads (Some text) FILE_LIMIT r.plan schedule) (source_reasons (Some text)) go_passed accepted
 
       pub go_unwritten : (now : StoreSeen) (s : Status) → WriteRefused mid now s → Ends (Go file name r) before now out out s
       go_unwritten now s h = write_ends (Go file name r) before mid now out keeps (run_input text schedule) go_is go_none s h

@@ -28,7 +28,7 @@ module _ (R Q : Reasons) (goes : (s : Status) → First R s → First Q s) where
   refuses_map (Text fault) h = goes (Text fault) h
   refuses_map (Program rule at seen) h = goes (Program rule at seen) h
   refuses_map (Image fault) h = goes (Image fault) h
-  refuses_map NotBuilt h = goes NotBuilt h
+  refuses_map NotBuilt h = absurd h
   refuses_map Words h = absurd h
   refuses_map (BadSchedule number) h = absurd h
   refuses_map Done h = absurd h

@@ -11,7 +11,7 @@ use Rattle.redn_top.specs.StatusText.{code_of}
 use Rattle.redn_command.specs.declared.limits.TheConstants.{MOST_STEPS}
 use Rattle.redn_command.specs.Words.{Command, Check, Compile, Run, Go, Disasm, Assemble, Gen, Plan, Schedule, Fair, Shuffle, RunWords, MessageWord, Line, most_steps, GivesPlan, IsCommand}
 use Rattle.redn_top.specs.Refusals.{IsRunnable, CanRun}
-use Rattle.redn_top.specs.Reasons.{Input, IsInput, IsPlanInput, plan_reads, run_reads, not_built, Reasons, Nil, Or, also, NoneHolds, First, missing, too_long, no_tree, no_program, other_shape, no_image, wrong_line, broken_rows, read_reasons, source_reasons, program_reasons, image_reasons, listing_reasons, reasons}
+use Rattle.redn_top.specs.Reasons.{Input, IsInput, IsPlanInput, plan_reads, run_reads, not_built, Reasons, Nil, Or, also, NoneHolds, First, missing, too_long, no_tree, no_program, no_image, wrong_line, broken_rows, read_reasons, source_reasons, image_reasons, listing_reasons, reasons}
 use Rattle.redn_top.specs.Answers.{Written, Ran, RunsMade, MadeMessages, MadeEnd, RunsImage, BadMessages, ToEnd, Stops, Meets, Finishes, Answered, Ends, IfSpoken, IsRunEnd, IsFinish, IsFinishOrWant, NoneFailed}
 
 -- ---- words
@@ -73,9 +73,6 @@ module _ (found : Option (List ℕ)) where
   program_coded : IsCoded (no_program found)
   program_coded s t h k = by_code 7 s t (ap code_of h.2.4) (ap code_of k.2.4)
 
-  shape_coded : IsCoded (other_shape found)
-  shape_coded s t h k = by_code 13 s t (ap code_of h.2.1) (ap code_of k.2.1)
-
   image_coded : IsCoded (no_image found)
   image_coded s t h k = by_code 8 s t (ap code_of h.2.2) (ap code_of k.2.2)
 
@@ -96,11 +93,11 @@ reads_coded found limit (Shuffle number steps) schedule = (missing_coded found, 
 
 reasons_coded : (c : Command) (i : Input) → AreCoded (reasons c i)
 reasons_coded (Check file) i = (missing_coded i.first, (long_coded i.first FILE_LIMIT, (tree_coded i.first, (program_coded i.first, tt))))
-reasons_coded (Compile file image) i = (missing_coded i.first, (long_coded i.first FILE_LIMIT, (tree_coded i.first, (program_coded i.first, (shape_coded i.first, tt)))))
+reasons_coded (Compile file image) i = (missing_coded i.first, (long_coded i.first FILE_LIMIT, (tree_coded i.first, (program_coded i.first, tt))))
 reasons_coded (Run image r) i = both_coded (run_reads i.first IMAGE_LIMIT r.plan i.schedule) (image_reasons i.first) (reads_coded i.first IMAGE_LIMIT r.plan i.schedule) (image_coded i.first, tt)
 reasons_coded (Disasm image) i = (missing_coded i.first, (long_coded i.first IMAGE_LIMIT, (image_coded i.first, tt)))
 reasons_coded (Assemble listing image) i = (missing_coded i.first, (long_coded i.first LISTING_LIMIT, (wrong_line_coded i.first, (rows_coded i.first, tt))))
-reasons_coded (Go file image r) i = both_coded (run_reads i.first FILE_LIMIT r.plan i.schedule) (program_reasons i.first) (reads_coded i.first FILE_LIMIT r.plan i.schedule) (tree_coded i.first, (program_coded i.first, (shape_coded i.first, tt)))
+reasons_coded (Go file image r) i = both_coded (run_reads i.first FILE_LIMIT r.plan i.schedule) (source_reasons i.first) (reads_coded i.first FILE_LIMIT r.plan i.schedule) (tree_coded i.first, (program_coded i.first, tt))
 reasons_coded (Gen number image) i = ((λ s t h k. by_code 13 s t (ap code_of h) (ap code_of k)), tt)
 
 same_plan : (files : Files) (p : Plan) (found other : Option (List ℕ)) → IsPlanInput (Some files) p found → IsPlanInput (Some files) p other → (P : Reasons → Type 0) → P (plan_reads p found) → P (plan_reads p other)
@@ -111,15 +108,15 @@ same_plan files (Shuffle number steps) found other a b P h = h
 -- where the store tells, reasons are those of what it holds
 same_reasons : (files : Files) (c : Command) (i j : Input) → IsInput (Some files) c i → IsInput (Some files) c j → (P : Reasons → Type 0) → P (reasons c i) → P (reasons c j)
 same_reasons files (Check file) i j a b P h = subst (λ (f : Option (List ℕ)). P (also (read_reasons f FILE_LIMIT) (source_reasons f))) (sym a ∙ b) h
-same_reasons files (Compile file image) i j a b P h = subst (λ (f : Option (List ℕ)). P (also (read_reasons f FILE_LIMIT) (program_reasons f))) (sym a ∙ b) h
+same_reasons files (Compile file image) i j a b P h = subst (λ (f : Option (List ℕ)). P (also (read_reasons f FILE_LIMIT) (source_reasons f))) (sym a ∙ b) h
 same_reasons files (Run image r) i j a b P h =
     same_plan files r.plan i.schedule j.schedule a.1 b.1 (λ reads. P (also (also (read_reasons j.first IMAGE_LIMIT) reads) (image_reasons j.first)))
     (subst (λ (f : Option (List ℕ)). P (also (run_reads f IMAGE_LIMIT r.plan i.schedule) (image_reasons f))) (sym a.0 ∙ b.0) h)
 same_reasons files (Disasm image) i j a b P h = subst (λ (f : Option (List ℕ)). P (also (read_reasons f IMAGE_LIMIT) (image_reasons f))) (sym a ∙ b) h
 same_reasons files (Assemble listing image) i j a b P h = subst (λ (f : Option (List ℕ)). P (also (read_reasons f LISTING_LIMIT) (listing_reasons f))) (sym a ∙ b) h
 same_reasons files (Go file image r) i j a b P h =
-    same_plan files r.plan i.schedule j.schedule a.1 b.1 (λ reads. P (also (also (read_reasons j.first FILE_LIMIT) reads) (program_reasons j.first)))
-    (subst (λ (f : Option (List ℕ)). P (also (run_reads f FILE_LIMIT r.plan i.schedule) (program_reasons f))) (sym a.0 ∙ b.0) h)
+    same_plan files r.plan i.schedule j.schedule a.1 b.1 (λ reads. P (also (also (read_reasons j.first FILE_LIMIT) reads) (source_reasons j.first)))
+    (subst (λ (f : Option (List ℕ)). P (also (run_reads f FILE_LIMIT r.plan i.schedule) (source_reasons f))) (sym a.0 ∙ b.0) h)
 same_reasons files (Gen number image) i j a b P h = h
 
 -- ---- what follows where the store tells

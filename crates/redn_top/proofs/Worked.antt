@@ -9,13 +9,12 @@ use Rattle.redn_outside.specs.Files.{Files, with_file}
 use Rattle.redn_words.specs.declared.types.Action.{Action}
 use Rattle.redn_words.specs.declared.types.Action.TheVariants.{Deliver}
 use Rattle.redn_words.specs.Words.{spelled}
-use Rattle.redn_words.specs.Requests.{encoded}
 use Rattle.redn_words.specs.States.{State, start}
 use Rattle.redn_words.specs.Steps.{possible, after, shown}
 use Rattle.redn_trace.specs.EventText.{event_text}
 use Rattle.redn_sched.specs.declared.text.Numbered.{Numbered}
 use Rattle.redn_sched.specs.ScheduleText.{action_text, lines_of, Reads, Begins}
-use Rattle.redn_compile.specs.FirstImage.{first_image}
+use Rattle.redn_image.specs.Rules.{Image as Parts}
 use Rattle.redn_image.specs.Faithful.{start_of}
 use Rattle.redn_syntax.specs.declared.token.Token.{Token}
 use Rattle.redn_syntax.specs.declared.token.TokenKind.TheVariants.{Name}
@@ -106,8 +105,13 @@ places : (token_place (codes "ab c") (letters 0 2 ∷ letters 3 1 ∷ []) 1 ≡ 
 unfolding letters
 places = (refl, refl)
 
+-- nothing but a place for a message
+no_queues : Parts
+no_queues =
+    record { regions = []; queues = []; receives = record { base = 0; len = 8 } ∷ []; memory = 0 ∷ 0 ∷ 0 ∷ 0 ∷ 0 ∷ 0 ∷ 0 ∷ 0 ∷ [] }
+
 first : State
-first = start_of (first_image (record { args = 1; words = 0 ∷ [] })) (Some (spelled 8 42) ∷ [])
+first = start_of no_queues (Some (spelled 8 42) ∷ [])
 
 at : ℕ → Action → Numbered
 at n a = record { line = n; action = a }
@@ -121,7 +125,7 @@ unfolding twice at action_text digits
 twice_begins = inl (record { text = refl; fits = lit< tt }, refl, inr (tt, inr (refl, inl (record { text = refl; fits = lit< tt }, refl, tt))))
 
 the_message_again : StopsAt first twice 4 []
-unfolding first at first_image spelled encoded start possible after shown event_text
+unfolding first at no_queues spelled start possible after shown event_text
 the_message_again = record { before = at 1 (Deliver 0) ∷ []; here = at 4 (Deliver 0); begins = twice_begins; number = refl; possible_before = (refl, tt); not_possible = refl; prints = refl }
 
 alone : List ℕ
@@ -132,7 +136,7 @@ unfolding alone at action_text digits
 alone_reads = inr (tt, inr (tt, inl (record { text = refl; fits = lit< tt }, refl, tt)))
 
 a_message_alone : RunsToEnd first alone (codes "end schedule\n")
-unfolding first at first_image spelled encoded start possible after shown event_text
+unfolding first at no_queues spelled start possible after shown event_text
 a_message_alone = record { lines = at 3 (Deliver 0) ∷ []; reads = alone_reads; all_possible = (refl, tt); prints = refl }
 
 -- both ends of a run whose steps are made
@@ -141,5 +145,5 @@ made_ends = (refl, refl)
 
 -- the first put failed behind five bytes of the end line
 half_an_end : IsCut first alone (codes "end s")
-unfolding first at first_image spelled encoded start possible after shown event_text
+unfolding first at no_queues spelled start possible after shown event_text
 half_an_end = inr (record { lines = at 3 (Deliver 0) ∷ []; part = 5; reads = alone_reads; all_possible = (refl, tt); prints = refl })

@@ -1,13 +1,11 @@
 -- Why a command does nothing more: for each command an ordered list of reasons, of which the first that holds is told.
 use Rattle.std.specs.Prelude.{◌≡◌, ◌⊎◌, ℕ, ◌+◌, ◌<◌, List, [], ◌∷◌, length, Option, Some, None}
-use Rattle.redn_kernel.specs.declared.types.Program.{Program}
 use Rattle.redn_outside.specs.Files.{Files, file_at}
 use Rattle.redn_image.specs.Rules.{Image}
 use Rattle.redn_image.specs.Spelling.{Refused, NotMagic, OtherVersion, TooShort, TooLong, Broken, refused}
 use Rattle.redn_image.specs.declared.numbers.Fault.{Fault}
 use Rattle.redn_disasm.specs.Assembly.{Assembles, WrongLine, BreaksRule}
 use Rattle.redn_top.specs.declared.status.TextFault.TheVariants as text_fault
-use Rattle.redn_compile.specs.FirstImage.{HasFirstShape}
 use Rattle.redn_top.specs.declared.limits.TheConstants.{FILE_LIMIT, IMAGE_LIMIT, LISTING_LIMIT, SCHEDULE_LIMIT}
 use Rattle.redn_top.specs.declared.status.ImageFault.{ImageFault}
 use Rattle.redn_top.specs.declared.status.ImageFault.TheVariants as image_fault
@@ -17,7 +15,7 @@ use Rattle.redn_top.specs.declared.status.Status.{Status}
 use Rattle.redn_top.specs.declared.status.Status.TheVariants as status
 use Rattle.redn_command.specs.Words.{Command, Check, Compile, Run, Go, Disasm, Assemble, Gen, Plan, Schedule, Fair, Shuffle, MessageWord}
 use Rattle.redn_top.specs.MessageWords.{messages, word_faults, length_faults}
-use Rattle.redn_top.specs.Sources.{Means, TextRefused, RuleBroken}
+use Rattle.redn_top.specs.Sources.{TextRefused, RuleBroken}
 
 -- ---- what is read
 
@@ -68,10 +66,6 @@ module _ (found : Option (List ℕ)) where
   -- a rule of programs fails
   abbrev pub no_program : Status → Type 0
   no_program = of_text (λ text s. (rule : ℕ) × (at : ℕ) × (seen : ℕ) × RuleBroken text rule at seen × (s ≡ status.Program rule at seen))
-
-  -- a program that isn't compiled yet
-  abbrev pub other_shape : Status → Type 0
-  other_shape = of_text (λ text s. ((p : Program) × Means text p × ¬ HasFirstShape p) × (s ≡ status.NotBuilt))
 
   abbrev pub told_fault : Refused → ImageFault
   told_fault NotMagic = image_fault.Magic
@@ -133,9 +127,6 @@ read_reasons found limit = Or (missing found) (Or (too_long found limit) Nil)
 abbrev pub source_reasons : Option (List ℕ) → Reasons
 source_reasons found = Or (no_tree found) (Or (no_program found) Nil)
 
-abbrev pub program_reasons : Option (List ℕ) → Reasons
-program_reasons found = also (source_reasons found) (Or (other_shape found) Nil)
-
 abbrev pub image_reasons : Option (List ℕ) → Reasons
 image_reasons found = Or (no_image found) Nil
 
@@ -157,11 +148,11 @@ not_built s = s ≡ status.NotBuilt
 
 abbrev pub reasons : Command → Input → Reasons
 reasons (Check file) i = also (read_reasons i.first FILE_LIMIT) (source_reasons i.first)
-reasons (Compile file image) i = also (read_reasons i.first FILE_LIMIT) (program_reasons i.first)
+reasons (Compile file image) i = also (read_reasons i.first FILE_LIMIT) (source_reasons i.first)
 reasons (Run image r) i = also (run_reads i.first IMAGE_LIMIT r.plan i.schedule) (image_reasons i.first)
 reasons (Disasm image) i = also (read_reasons i.first IMAGE_LIMIT) (image_reasons i.first)
 reasons (Assemble listing image) i = also (read_reasons i.first LISTING_LIMIT) (listing_reasons i.first)
-reasons (Go file image r) i = also (run_reads i.first FILE_LIMIT r.plan i.schedule) (program_reasons i.first)
+reasons (Go file image r) i = also (run_reads i.first FILE_LIMIT r.plan i.schedule) (source_reasons i.first)
 reasons (Gen number image) i = Or not_built Nil
 
 -- with an image at hand, those of messages

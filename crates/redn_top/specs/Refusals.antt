@@ -71,7 +71,6 @@ Refuses R status.Memory = Unit {0}
 Refuses R (status.Text fault) = First R (status.Text fault)
 Refuses R (status.Program rule at seen) = First R (status.Program rule at seen)
 Refuses R (status.Image fault) = First R (status.Image fault)
-Refuses R status.NotBuilt = First R status.NotBuilt
 Refuses R _ = ⊥
 
 -- why a text has no tree

@@ -5,7 +5,6 @@ ghost use Rattle.std.specs.Option.{option_map};
 ghost use Rattle.redn_outside.specs.Seen.{KeepsFiles};
 ghost use Rattle.redn_command.specs.Words.{plan_view};
 ghost use Rattle.redn_kernel.specs.Program.{IsSound};
-ghost use Rattle.redn_compile.specs.FirstImage.{HasFirstShape};
 ghost use Rattle.redn_image.specs.Spelling.{Spells, refused};
 ghost use Rattle.redn_image.specs.Answers.{SaysWhy};
 ghost use Rattle.redn_image.specs.Rules.{numbers_of};
@@ -13,14 +12,13 @@ ghost use Rattle.redn_disasm.specs.Assembly.{Assembles, Made};
 ghost use Rattle.redn_disasm.specs.Going.{SaysWhy as MeansNoImage};
 ghost use Rattle.redn_disasm.specs.Laws.{OneMeaning};
 ghost use Rattle.redn_top.specs.Sources.{Means};
-ghost use Rattle.redn_top.specs.Reasons.{NoneHolds, image_reasons, listing_reasons, program_reasons};
+ghost use Rattle.redn_top.specs.Reasons.{NoneHolds, image_reasons, listing_reasons, source_reasons};
 ghost use Rattle.redn_top.specs.Refusals.{IsHeld, IsPlanHeld, ReadRefused, Refuses, RunReadRefused};
 
 use crate::limits::{FILE_LIMIT, SCHEDULE_LIMIT};
 use crate::source::read_program;
 use crate::status::{ImageFault, Status, TextFault};
 use redn_command::Plan;
-use redn_compile::has_first_shape;
 use redn_disasm::{ListFault, a_text_has_one_meaning, assemble};
 use redn_image::{Image, read_image};
 use redn_kernel::Program;
@@ -75,21 +73,15 @@ pub fn read_run<S: Store>(
     }
 }
 
-/// The program of a source text, where it has the one shape that is compiled.
-pub fn first_program(alloc: Global, text: &[u8]) -> Result<Program, Status>
+/// The program of a source text.
+pub fn program_in(alloc: Global, text: &[u8]) -> Result<Program, Status>
     requires { length text.now ≤ FILE_LIMIT }
     ensures means { IfOk result (Means text.now) }
     ensures sound { IfOk result IsSound }
-    ensures shape { IfOk result HasFirstShape }
-    ensures accepted { OnOk result (NoneHolds (program_reasons (Some text.now))) }
-    ensures refused { IfErr result (Refuses (program_reasons (Some text.now))) }
+    ensures accepted { OnOk result (NoneHolds (source_reasons (Some text.now))) }
+    ensures refused { IfErr result (Refuses (source_reasons (Some text.now))) }
 {
-    let program = read_program(alloc, text)?;
-    if has_first_shape(&program) {
-        Ok(program)
-    } else {
-        Err(Status::NotBuilt)
-    }
+    read_program(alloc, text)
 }
 
 /// How it is told that bytes spell no image.

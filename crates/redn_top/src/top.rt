@@ -14,7 +14,7 @@ ghost use Rattle.redn_top.specs.Answers.{Ends, IfSpoken, IsFinish, IsFinishOrWan
 ghost use Rattle.redn_top.specs.Refusals.{CanRun, HasText, IsRunnable, RunEnds, WriteRefused, run_of};
 
 use crate::limits::{FILE_LIMIT, IMAGE_LIMIT, LISTING_LIMIT};
-use crate::reading::{first_program, image_in, image_of_listing, read_file, read_run};
+use crate::reading::{image_in, image_of_listing, program_in, read_file, read_run};
 use crate::run::{put, put_lines, run_image, run_image_made};
 use crate::source::checked_text;
 use crate::status::Status;
@@ -120,7 +120,7 @@ fn run_compile<S: Store, K: Sink>(
     ensures spares { Spares (Compile file.now name.now) (S.seen store.old) (S.seen store.new) }
 {
     let source = read_file(alloc, store, file, FILE_LIMIT)?;
-    let program = first_program(alloc, &source)?;
+    let program = program_in(alloc, &source)?;
     let image = compile(alloc, &program)?;
     write_out(alloc, name, &image, store)
 }
@@ -164,7 +164,7 @@ fn run_go<S: Store, K: Sink>(
         (S.seen store.old) (S.seen store.new) }
 {
     let (source, schedule) = read_run(alloc, store, file, FILE_LIMIT, plan)?;
-    let program = first_program(alloc, &source)?;
+    let program = program_in(alloc, &source)?;
     let image = compile(alloc, &program)?;
     write_out(alloc, name, &image, store)?;
     run_planned(alloc, image, plan, keep, messages, schedule, store, out)

@@ -5,7 +5,7 @@ ghost use Rattle.std.specs.Prelude.{◌≡◌, ◌+◌, ◌^◌, ◌<◌, IfOk};
 ghost use Rattle.redn_sched.specs.MadeSchedules.{fair};
 
 use crate::status::Status;
-use crate::tests::{ECHO, MESSAGE, Outcome, with_words};
+use crate::tests::{ECHO, ECHO_BYTES, MESSAGE, Outcome, with_words};
 use redn_adapter::{Adapter, open};
 use redn_image::image_of;
 use redn_outside::MemStore;
@@ -134,7 +134,7 @@ fn echo_gets_quiet(rt: HostRuntime) -> Result<(), Fail> {
     let alloc = rt.alloc();
     let outcome = go_echo(alloc, &["--fair", "1000", MESSAGE], &[])?;
     assert_eq!(rt; outcome.status, Status::Done);
-    assert_eq!(rt; outcome.image, Some(584));
+    assert_eq!(rt; outcome.image, Some(ECHO_BYTES));
     assert_eq!(rt;
         outcome.printed.as_slice(),
         b"set 0 0 42\nreply 0 42\nend quiet\n".as_slice()

@@ -1,7 +1,7 @@
 //! Images that are written by `compile` and run by `run`, and images made by hand.
 
 use crate::status::{ImageFault, MessageFault, Status};
-use crate::tests::{ECHO, IN_ORDER, Outcome, PRINTED, with_words};
+use crate::tests::{ECHO, ECHO_BYTES, IN_ORDER, Outcome, PRINTED, with_words};
 use redn_image::{RuleFault, image_of, read_image, write_image};
 use redn_outside::MemStore;
 use redn_words::{Kind, Memory, QueueRow, Receive, Region, Request};
@@ -242,7 +242,7 @@ fn what_compile_writes_runs(rt: HostRuntime) -> Result<(), Fail> {
     store.add("s.txt", IN_ORDER)?;
     let outcome = with_words(alloc, &["compile", "e.redn", "e.img"], &mut store, &[])?;
     assert_eq!(rt; outcome.status, Status::Done);
-    assert_eq!(rt; outcome.image, Some(584));
+    assert_eq!(rt; outcome.image, Some(ECHO_BYTES));
     assert!(rt; outcome.printed.is_empty());
     let words = ["run", "e.img", "--schedule", "s.txt", "0=000000000000002A"];
     let outcome = with_words(alloc, &words, &mut store, &[])?;
@@ -281,7 +281,7 @@ fn messages_are_refused_word_by_word_and_then_by_length(rt: HostRuntime) -> Resu
         words.extend_from_slice(messages)?;
         let outcome = with_words(alloc, &words, &mut store, &[])?;
         assert_eq!(rt; outcome.status, Status::Message(fault));
-        assert_eq!(rt; outcome.image, Some(584));
+        assert_eq!(rt; outcome.image, Some(ECHO_BYTES));
         assert!(rt; outcome.printed.is_empty());
     }
     let silent = run(alloc, &rewrites_itself(alloc, 1)?, b"", &["0="])?;

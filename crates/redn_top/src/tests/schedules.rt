@@ -5,7 +5,7 @@ ghost use Rattle.std.specs.Prelude.{◌+◌, ◌^◌, ◌<◌, ◌≤◌, length
 
 use crate::status::Status;
 use crate::tests::fair::{opened, request, ring};
-use crate::tests::{ECHO, MESSAGE, Outcome, with_words};
+use crate::tests::{ECHO, ECHO_BYTES, MESSAGE, Outcome, with_words};
 use redn_adapter::Adapter;
 use redn_disasm::next_line;
 use redn_outside::MemStore;
@@ -235,7 +235,7 @@ fn repeated_fetches_are_recorded(rt: HostRuntime) -> Result<(), Fail> {
         "e.redn",
         "e.img",
         "--shuffle",
-        "0",
+        "4",
         "--steps",
         "12",
         "--record",
@@ -245,12 +245,12 @@ fn repeated_fetches_are_recorded(rt: HostRuntime) -> Result<(), Fail> {
     assert_eq!(rt; outcome.status, Status::Done);
     assert_eq!(rt; outcome.printed.as_slice(), b"end quiet\n".as_slice());
     let written = held(alloc, &store, "r.txt")?;
-    assert_eq!(rt; written.as_slice(), ECHO_DRAWN_BY_0);
+    assert_eq!(rt; written.as_slice(), ECHO_DRAWN_BY_4);
     Ok(())
 }
 
-/// The actions that 0 draws of the image of `ECHO` without a message.
-const ECHO_DRAWN_BY_0: &[u8] = b"f 0 0\nf 0 5\nf 0 0\nf 0 0\nf 0 1\nf 0 2\nf 0 4\nf 0 3\n";
+/// The actions that 4 draws of the image of `ECHO` without a message: the two slots of its entry.
+const ECHO_DRAWN_BY_4: &[u8] = b"f 0 0\nf 0 0\nf 0 0\nf 0 0\nf 0 1\n";
 
 /// A record that can't be written: what was printed stays.
 #[test]
@@ -269,7 +269,7 @@ fn a_record_that_is_not_written_is_told(rt: HostRuntime) -> Result<(), Fail> {
         outcome.printed.as_slice(),
         b"set 0 0 42\nreply 0 42\nend quiet\n".as_slice()
     );
-    assert_eq!(rt; outcome.image, Some(584));
+    assert_eq!(rt; outcome.image, Some(ECHO_BYTES));
     assert!(rt; store.get("r.txt").is_none());
     Ok(())
 }
@@ -327,7 +327,7 @@ fn the_image_is_written_before_a_bad_line(rt: HostRuntime) -> Result<(), Fail> {
     let words = ["go", "e.redn", "e.img", "--schedule", "s.txt", MESSAGE];
     let outcome = with_words(alloc, &words, &mut store, &[])?;
     assert_eq!(rt; outcome.status, Status::Schedule { line: 2 });
-    assert_eq!(rt; outcome.image, Some(584));
+    assert_eq!(rt; outcome.image, Some(ECHO_BYTES));
     assert!(rt; outcome.printed.is_empty());
     Ok(())
 }

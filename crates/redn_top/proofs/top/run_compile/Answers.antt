@@ -2,7 +2,7 @@ use Rattle.std.proofs.Common.{List, ℕ, subst}
 use Rattle.std.specs.Prelude.{Some}
 use Rattle.std.proofs.lemmas.Result.{err_from_is_err_and}
 use Rattle.redn_top.specs.Sources.{Means}
-use Rattle.redn_top.specs.Reasons.{NoneHolds, program_reasons}
+use Rattle.redn_top.specs.Reasons.{NoneHolds, source_reasons}
 use Rattle.redn_top.specs.Refusals.{Refuses}
 use Rattle.redn_top.proofs.Ending.{compile_unread, compile_refused, compile_written}
 use Rattle.redn_top.proofs.top.run_compile.Goals as goal
@@ -16,11 +16,11 @@ pub returns-in_err-program-clause-ends : goal.returns-in_err-program-clause-ends
 returns-in_err-program-clause-ends g c =
     let p = err_from_is_err_and c.from_residual-in_err-program.result c.from_residual-in_err-program.ensures.1 in
     rw (p.1, p.2) (compile_refused c.args.file.now c.args.name.now (g.S.Store.seen c.args.store.now) (g.S.Store.seen c.read_file.new.store) (g.K.Sink.seen c.args.out.now) c.in_ok-source.ensures.stays c.in_ok-source.source.items c.in_ok-source.ensures.held c.in_err-program.field-0.0
-    (subst (λ (t : List ℕ). Refuses (program_reasons (Some t)) c.in_err-program.field-0.0) c.deref.ensures.value c.in_err-program.ensures.refused))
+    (subst (λ (t : List ℕ). Refuses (source_reasons (Some t)) c.in_err-program.field-0.0) c.deref.ensures.value c.in_err-program.ensures.refused))
 
 pub returns-clause-ends : goal.returns-clause-ends
 returns-clause-ends g c =
     let p = c.in_ok-program.program in
     let means = subst (λ (t : List ℕ). Means t p) c.deref.ensures.value c.in_ok-program.ensures.means in
-    let accepted = subst (λ (t : List ℕ). NoneHolds (program_reasons (Some t))) c.deref.ensures.value c.in_ok-program.ensures.accepted in
-    compile_written c.args.file.now c.args.name.now (g.S.Store.seen c.args.store.now) (g.S.Store.seen c.read_file.new.store) (g.K.Sink.seen c.args.out.now) c.in_ok-source.ensures.stays c.in_ok-source.source.items c.in_ok-source.ensures.held p means accepted c.in_ok-image.image c.in_ok-image.ensures (g.S.Store.seen c.write_out.new.store) c.write_out.result c.write_out.ensures.wrote c.write_out.ensures.refused
+    let accepted = subst (λ (t : List ℕ). NoneHolds (source_reasons (Some t))) c.deref.ensures.value c.in_ok-program.ensures.accepted in
+    compile_written c.args.file.now c.args.name.now (g.S.Store.seen c.args.store.now) (g.S.Store.seen c.read_file.new.store) (g.K.Sink.seen c.args.out.now) c.in_ok-source.ensures.stays c.in_ok-source.source.items c.in_ok-source.ensures.held p means accepted c.in_ok-image.image c.in_ok-image.ensures.faithful (g.S.Store.seen c.write_out.new.store) c.write_out.result c.write_out.ensures.wrote c.write_out.ensures.refused

@@ -5,7 +5,7 @@ use Rattle.std.proofs.lemmas.Result.{err_from_is_err_and}
 use Rattle.redn_command.specs.Words.{message_view, plan_view}
 use Rattle.redn_top.specs.Sources.{Means}
 use Rattle.redn_top.specs.Answers.{status_of}
-use Rattle.redn_top.specs.Reasons.{NoneHolds, program_reasons}
+use Rattle.redn_top.specs.Reasons.{NoneHolds, source_reasons}
 use Rattle.redn_top.specs.Refusals.{Refuses, run_of}
 use Rattle.redn_top.proofs.Endings.{go_unread, go_refused, go_unwritten, go_ends, has_text, others_stay}
 use Rattle.redn_top.proofs.top.run_go.Goals as goal
@@ -20,7 +20,7 @@ pub returns-in_err-program-clause-ends : goal.returns-in_err-program-clause-ends
 returns-in_err-program-clause-ends g c =
     let r = run_of (plan_view c.args.plan.now) (option_map string_bytes c.args.keep.now) (map message_view c.args.messages.now) in
     let p = err_from_is_err_and c.from_residual-in_err-program.result c.from_residual-in_err-program.ensures.1 in
-    let refused = subst (λ (t : List ℕ). Refuses (program_reasons (Some t)) c.in_err-program.field-0.0) c.deref.ensures.value c.in_err-program.ensures.refused in
+    let refused = subst (λ (t : List ℕ). Refuses (source_reasons (Some t)) c.in_err-program.field-0.0) c.deref.ensures.value c.in_err-program.ensures.refused in
     rw (p.1, p.2) (go_refused c.args.file.now c.args.name.now r (g.S.Store.seen c.args.store.now) (g.S.Store.seen c.read_run.new.store) (g.K.Sink.seen c.args.out.now) c.in_ok-source.ensures.stays c.in_ok-source.source.items (option_map (λ v. v.items) c.in_ok-source.schedule) c.in_ok-source.ensures.held c.in_ok-source.ensures.schedule_held c.in_err-program.field-0.0 refused)
 
 pub returns-in_err-write_out-clause-ends : goal.returns-in_err-write_out-clause-ends
@@ -29,7 +29,7 @@ returns-in_err-write_out-clause-ends g c =
     let p = err_from_is_err_and c.from_residual-in_err-write_out.result c.from_residual-in_err-write_out.ensures.1 in
     let program = c.in_ok-program.program in
     let means = subst (λ (t : List ℕ). Means t program) c.deref.ensures.value c.in_ok-program.ensures.means in
-    let accepted = subst (λ (t : List ℕ). NoneHolds (program_reasons (Some t))) c.deref.ensures.value c.in_ok-program.ensures.accepted in
+    let accepted = subst (λ (t : List ℕ). NoneHolds (source_reasons (Some t))) c.deref.ensures.value c.in_ok-program.ensures.accepted in
     rw (p.1, p.2) (go_unwritten c.args.file.now c.args.name.now r (g.S.Store.seen c.args.store.now) (g.S.Store.seen c.read_run.new.store) (g.K.Sink.seen c.args.out.now) c.in_ok-source.ensures.stays c.in_ok-source.source.items (option_map (λ v. v.items) c.in_ok-source.schedule) c.in_ok-source.ensures.held c.in_ok-source.ensures.schedule_held program means accepted (g.S.Store.seen c.write_out.new.store) c.in_err-write_out.field-0.0 c.in_err-write_out.ensures.refused)
 
 pub run_planned-requires-clause-text : goal.run_planned-requires-clause-text
@@ -41,8 +41,8 @@ returns-clause-ends g c =
     let r = run_of (plan_view c.args.plan.now) (option_map string_bytes c.args.keep.now) (map message_view c.args.messages.now) in
     let program = c.in_ok-program.program in
     let means = subst (λ (t : List ℕ). Means t program) c.deref.ensures.value c.in_ok-program.ensures.means in
-    let accepted = subst (λ (t : List ℕ). NoneHolds (program_reasons (Some t))) c.deref.ensures.value c.in_ok-program.ensures.accepted in
-    go_ends c.args.file.now c.args.name.now r (g.S.Store.seen c.args.store.now) (g.S.Store.seen c.read_run.new.store) (g.K.Sink.seen c.args.out.now) c.in_ok-source.ensures.stays c.in_ok-source.source.items (option_map (λ v. v.items) c.in_ok-source.schedule) c.in_ok-source.ensures.held c.in_ok-source.ensures.schedule_held program means accepted c.in_ok-image.image c.in_ok-image.ensures (g.S.Store.seen c.write_out.new.store) c.in_ok-write_out.ensures.wrote c.in_ok-write_out.ensures.count c.in_ok-write_out.ensures.reliable (g.S.Store.seen c.run_planned.new.store) (g.K.Sink.seen c.run_planned.new.out) (status_of c.run_planned.result) c.run_planned.ensures.ran
+    let accepted = subst (λ (t : List ℕ). NoneHolds (source_reasons (Some t))) c.deref.ensures.value c.in_ok-program.ensures.accepted in
+    go_ends c.args.file.now c.args.name.now r (g.S.Store.seen c.args.store.now) (g.S.Store.seen c.read_run.new.store) (g.K.Sink.seen c.args.out.now) c.in_ok-source.ensures.stays c.in_ok-source.source.items (option_map (λ v. v.items) c.in_ok-source.schedule) c.in_ok-source.ensures.held c.in_ok-source.ensures.schedule_held program means accepted c.in_ok-image.image c.in_ok-image.ensures.faithful (g.S.Store.seen c.write_out.new.store) c.in_ok-write_out.ensures.wrote c.in_ok-write_out.ensures.count c.in_ok-write_out.ensures.reliable (g.S.Store.seen c.run_planned.new.store) (g.K.Sink.seen c.run_planned.new.out) (status_of c.run_planned.result) c.run_planned.ensures.ran
 
 pub returns-in_err-source-clause-spares : goal.returns-in_err-source-clause-spares
 returns-in_err-source-clause-spares g c =
