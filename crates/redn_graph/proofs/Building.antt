@@ -51,12 +51,12 @@ own_meaning some own all l x at =
     x.same l lt ∙ ap (meaning_at (some ++ own ∷ [])) at ∙ get_or-append_seam some own [] nowhere
 
 -- the block whose meaning was just added
-own_block : {blocks : List Block} (some : List Meaning) (own : Meaning) (all : List Meaning) (l : ℕ) → Extends (some ++ own ∷ []) all → l ≡ length some → (b : Block) → slice_get blocks l ≡ Some b → Runs all b.end b.instrs own block_worth → BlockRuns all blocks l
+pub own_block : {blocks : List Block} (some : List Meaning) (own : Meaning) (all : List Meaning) (l : ℕ) → Extends (some ++ own ∷ []) all → l ≡ length some → (b : Block) → slice_get blocks l ≡ Some b → Runs all b.end b.instrs own block_worth → BlockRuns all blocks l
 own_block some own all l x at b there runs =
     record { block = b; there = there; runs = subst (λ (m : Meaning). Runs all b.end b.instrs m block_worth) (sym (own_meaning some own all l x at)) runs }
 
 -- nothing is added
-pub compiled_none : {some : List Meaning} {far : ℕ} {t : Tail} {m : Meaning} (blocks : List Block) → length some ≡ length blocks → Means some far t m → Compiled blocks blocks some far t m
+unfoldable pub compiled_none : {some : List Meaning} {far : ℕ} {t : Tail} {m : Meaning} (blocks : List Block) → length some ≡ length blocks → Means some far t m → Compiled blocks blocks some far t m
 compiled_none {some = some} blocks whole means = record {
   table = some;
   extends = extends_none some;
@@ -69,12 +69,12 @@ compiled_none {some = some} blocks whole means = record {
 
 module _ {old new : List Block} {some : List Meaning} {far : ℕ} {t : Tail} {m : Meaning} (c : Compiled old new some far t m) where
   -- what was added means something else too
-  pub compiled_means : {far2 : ℕ} {t2 : Tail} {m2 : Meaning} → Means c.table far2 t2 m2 → Compiled old new some far2 t2 m2
+  unfoldable pub compiled_means : {far2 : ℕ} {t2 : Tail} {m2 : Meaning} → Means c.table far2 t2 m2 → Compiled old new some far2 t2 m2
   compiled_means h =
       record { table = c.table; extends = c.extends; whole = c.whole; longer = c.longer; kept = c.kept; added = c.added; means = h }
 
   -- more is added
-  pub compiled_then : {last : List Block} {far2 : ℕ} {t2 : Tail} {m2 : Meaning} → Compiled new last c.table far2 t2 m2 → Compiled old last some far2 t2 m2
+  unfoldable pub compiled_then : {last : List Block} {far2 : ℕ} {t2 : Tail} {m2 : Meaning} → Compiled new last c.table far2 t2 m2 → Compiled old last some far2 t2 m2
   compiled_then {last = last} d = record {
     table = d.table;
     extends = extends_then c.extends d.extends;
@@ -89,7 +89,7 @@ module _ {old new : List Block} {some : List Meaning} {far : ℕ} {t : Tail} {m 
   }
 
   -- a block is reserved, code is added, and the block is bound to it
-  pub compiled_bound : {reserved last bound : List Block} (far3 : ℕ) {t2 : Tail} (t3 : Tail) (m3 : Meaning) (spare : Block) (head : ℕ) (own : Meaning) → reserved ≡ new ++ spare ∷ [] → head ≡ length new →
+  unfoldable pub compiled_bound : {reserved last bound : List Block} (far3 : ℕ) {t2 : Tail} (t3 : Tail) (m3 : Meaning) (spare : Block) (head : ℕ) (own : Meaning) → reserved ≡ new ++ spare ∷ [] → head ≡ length new →
       (d : Compiled reserved last (c.table ++ own ∷ []) 1 t2 own) → Bound last bound head t2 → Means d.table far3 t3 m3 → Compiled old bound some far3 t3 m3
   compiled_bound {reserved = reserved} {last = last} {bound = bound} far3 t3 m3 spare head own is at d b means =
       let more : length reserved ≡ length new + 1 = ap length is ∙ length-append new (spare ∷ []) in

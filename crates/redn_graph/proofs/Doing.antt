@@ -91,7 +91,7 @@ store_same c words tables s table o v stands m =
     ≡ (if b then (record { tables = with_word_in tables table o v; chain = chain_at words s false (m s.hidden); event = shows.Store c table o v }) else (source.ends c tables (chain_at words s false (stands s.hidden)) (shows.Fault c table o)))) [ true ↦ refl | false ↦ refl ]
 
 -- what is left after an instruction is no more than where it goes on
-left_most : (left : ℕ) (w : Way) → left_on left w ≤ left
+pub left_most : (left : ℕ) (w : Way) → left_on left w ≤ left
 left_most left On = omega arith
 left_most left Taking = omega arith
 left_most left (To l) = omega arith

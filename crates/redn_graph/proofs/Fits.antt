@@ -1,13 +1,12 @@
 -- Blocks that fit, and statements whose code does.
-use Rattle.std.proofs.Common.{◌≡◌, ◌≢◌, ℕ, ◌<◌, ◌≤◌, Bool, true, false, List, [], ◌∷◌, ◌++◌, length, reverse, map, Some, None, ◌⊎◌, inl, inr, refl, sym, ap, ◌∙◌, subst, arith, get_or, length-append}
+use Rattle.std.proofs.Common.{◌≡◌, ◌≢◌, ℕ, ◌<◌, ◌≤◌, Bool, true, false, List, [], ◌∷◌, ◌++◌, length, reverse, map, Some, inl, inr, refl, sym, ap, ◌∙◌, subst, arith, get_or, length-append}
 use Rattle.std.proofs.lemmas.List.{length-map, reverse-append, length-reverse}
 use Rattle.std.specs.List.{All}
 use Rattle.std.specs.Prelude.{slice_get}
 use Rattle.std.proofs.lemmas.Bool.{cases_lt}
 use Rattle.std.proofs.lemmas.List.Elements.{All-cons, All-nil, All-head, All-tail, All-append}
-use Rattle.std.proofs.lemmas.Option.{slice_get_cases, slice_get-get_or}
+use Rattle.std.proofs.lemmas.Option.{slice_get-get_or}
 use Rattle.std.proofs.Math.Nat.{eq-or-lt_of_le}
-use Rattle.redn_kernel.specs.declared.types.TableInit.{TableInit}
 use Rattle.redn_kernel.specs.declared.types.Word.{Word}
 use Rattle.redn_kernel.specs.declared.types.Word.TheVariants.{Var, Num}
 use Rattle.redn_kernel.specs.declared.types.Kernel.{Kernel, out-Kernel, map-Kernel, every-Kernel, every_here-Kernel, every_held-Kernel}

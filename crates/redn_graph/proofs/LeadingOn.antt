@@ -7,9 +7,6 @@ use Rattle.redn_graph.specs.declared.types.End.{End}
 use Rattle.redn_graph.specs.declared.types.Block.{Block}
 use Rattle.redn_graph.specs.declared.build.Tail.{Tail}
 use Rattle.redn_graph.specs.declared.build.Tail.TheVariants as tail
-use Rattle.redn_kernel.specs.declared.types.Word.{Word}
-use Rattle.redn_kernel.specs.declared.types.Word.TheVariants.{Var, Num}
-use Rattle.redn_graph.specs.Searches.{begin_at}
 use Rattle.redn_graph.specs.Growth.{Bound}
 use Rattle.redn_graph.proofs.Indexes.{slice_get_append_left}
 use Rattle.redn_graph.specs.Code.{IsOpen}
@@ -108,10 +105,6 @@ all_works blocks one works =
       | inr past ↦ past_works blocks k (omega (arith, one, past))
     ] in
     record { within = λ k l leads. absurd (none_some (sym (none k) ∙ leads)); stops = λ k. (k, stops_here blocks k (none k)) }
-
-pub begin_works : (offset : Word) → puts_back (begin_at offset) ≡ false
-begin_works (Var x) = refl
-begin_works (Num n) = refl
 
 -- a block is reserved, others are added, and it is bound
 module _ (b1 b2 b3 b4 : List Block) (head : ℕ) (spare : Block) (t : Tail) (reserved : b2 ≡ b1 ++ spare ∷ []) (at : head ≡ length b1) (fresh : idle_at b2 (length b1) ≡ None) (added : Added b2 b3) (among : IsAmong (length b3) t)

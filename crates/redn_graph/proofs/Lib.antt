@@ -6,10 +6,7 @@ pub mod Ends
 pub mod Indexes
 pub mod Openings
 pub mod Building
-pub mod Looking
 pub mod Counting
-pub mod Lookups
-pub mod Walks
 pub mod Statements
 pub mod Slots
 pub mod Bounded
@@ -30,3 +27,7 @@ pub mod Stopping
 pub mod LeadingOn
 pub mod NoneIdle
 pub mod WorkedBlocks
+mod CoreSteps
+mod CoreCode
+mod CoreMade
+mod CoreSearches

@@ -43,6 +43,10 @@ pub ok_both : {A E : Type 0} (r : Result A E) (P Q R : A → Type 0) → ((a : A
 ok_both (Ok a) P Q R f p q = f a p q
 ok_both (Err e) P Q R f p q = p
 
+pub ok_on : {A E : Type 0} (r : Result A E) (P : A → Type 0) (Q : Type 0) → ((a : A) → P a → Q) → IfOk r P → OnOk r Q
+ok_on (Ok a) P Q f p = f a p
+ok_on (Err e) P Q f p = p
+
 pub empty_list : {A : Type 0} (xs : List A) → length xs < 1 → xs ≡ []
 empty_list [] h = refl
 empty_list (x ∷ xs) h = absurd (omega arith)

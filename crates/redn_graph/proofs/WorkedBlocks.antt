@@ -9,20 +9,20 @@ use Rattle.redn_kernel.specs.declared.types.Kernel.TheVariants as s
 use Rattle.redn_kernel.specs.declared.types.Kernel.TheBlock.{shown-the_row-Kernel-0}
 use denote.Hole.Carrier as carrier
 use Rattle.redn_kernel.specs.declared.types.ChainInit.{ChainInit}
-use Rattle.redn_kernel.specs.Source.{AgainLoop, Find, do_all, item_does, statement_does}
+use Rattle.redn_kernel.specs.Source.{AgainLoop, do_all, item_does, statement_does}
 use Rattle.redn_graph.specs.declared.types.Instr.{Instr}
 use Rattle.redn_graph.specs.declared.types.Instr.TheVariants as i
 use Rattle.redn_graph.specs.declared.types.End.TheVariants as e
 use Rattle.redn_graph.specs.declared.types.Block.{Block}
 use Rattle.redn_graph.specs.declared.types.Graph.{Graph}
-use Rattle.redn_graph.specs.declared.build.Sought.{Sought}
 use Rattle.redn_graph.specs.Run.{graph_step, graph_start, step_cost, instr_does, end_does, instr_cost, end_cost}
 use Rattle.redn_graph.specs.Along.{state_along, cost_along}
 use Rattle.redn_graph.specs.Follows.{IsMatched, chain_start}
 use Rattle.redn_graph.specs.Code.{Leads}
 use Rattle.redn_graph.specs.Fits.{Things, IsCell, FitsInstr, FitsEnd, FitsBlock, FitsGraph, things_of}
 use Rattle.redn_graph.specs.Growth.{IsRoomy}
-use Rattle.redn_graph.specs.Searches.{probe_of, missed}
+use Rattle.redn_graph.specs.Cores.{cell_move}
+use Rattle.redn_graph.specs.CoreSizes.{instr_taken, fork_taken, round_taken, slots_in}
 use Rattle.redn_graph.specs.Silence.{Seen, chain_seen, graph_seen}
 use Rattle.redn_graph.specs.Slots.{block_slots, all_slots}
 use Rattle.redn_graph.specs.Reached.{CanGoTo, LeadsTo, IsPath, EachReached, renumbered}
@@ -180,15 +180,17 @@ round_a_loop : (rest : List Kernel) → Leads 1 (AgainLoop rest ∷ []) (do_all 
 unfolding item_does
 round_a_loop rest = record { count = 1; enough = omega arith; idles = (do_all rest ++ AgainLoop rest ∷ [], λ c tables t. refl, refl) }
 
--- the next bucket, 16 bytes behind
-abbrev sought : Sought
-sought = record { to = 0; table = 0; key = word.Num 7 }
+-- a number is set, and another cell's word is moved
+moves_of_cells : (cell_move (Hidden 1) (Num 0) ≡ i.Set (Hidden 1) 0) × (cell_move (Hidden 0) (Var 1) ≡ i.Move (Hidden 0) (Var 1))
+moves_of_cells = (refl, refl)
 
-the_next_bucket : (missed sought 2 (λ h. []) (λ k. 8) ≡ Find 0 0 24 (word.Num 7) 2 ∷ []) × (missed sought 0 (λ h. []) (λ k. 8) ≡ [])
-the_next_bucket = (refl, refl)
+-- a lookup of one bucket takes a move and a probe, and a move alone a jump too
+slots_of_core_statements : (slots_in (instr_taken 5 ∷ fork_taken 39 [] [] ∷ []) ≡ 44) × (slots_in (instr_taken 5 ∷ []) ≡ 14)
+slots_of_core_statements = (refl, refl)
 
-a_probe : probe_of sought 3 4 ≡ e.Probe (Var 0) 0 (Hidden 0) (Num 7) 3 4
-a_probe = refl
+-- two moves, a jump, and a loop around a probe
+slots_of_a_round : slots_in (instr_taken 5 ∷ instr_taken 5 ∷ round_taken (fork_taken 39 [] [] ∷ []) ∷ []) ≡ 85
+slots_of_a_round = refl
 
 -- the greatest chain has room
 room_for_the_greatest : IsRoomy (record { blocks = first ∷ []; hidden = 2 }) 4096

@@ -13,10 +13,8 @@ use Rattle.redn_kernel.specs.declared.types.ChainInit.{ChainInit}
 use Rattle.redn_graph.specs.declared.types.Block.{Block}
 use Rattle.redn_graph.specs.declared.types.Graph.{Graph}
 use Rattle.redn_graph.specs.declared.build.Builder.{Builder}
-use Rattle.redn_graph.specs.declared.build.Sought.{Sought}
 use Rattle.redn_graph.specs.declared.build.Tail.{Tail}
 use Rattle.redn_graph.specs.declared.build.Tail.TheVariants as tail
-use Rattle.redn_kernel.specs.CoreRun.{cell_of}
 
 -- what there is
 pub record Things : Type 0 where
@@ -88,9 +86,6 @@ module _ (n : Things) where
 
   abbrev pub AllWell : List Kernel → Type 0
   AllWell body = All IsWell body
-
-  abbrev pub FitsSought : Sought → Type 0
-  FitsSought q = (q.to < n.vars) × (q.table < length n.tables) × IsCell (cell_of q.key)
 
 -- what a chain and its blocks have
 abbrev pub things_of : List TableInit → ChainInit → Graph → Things

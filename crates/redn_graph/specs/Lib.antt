@@ -5,7 +5,6 @@ pub mod Statements
 pub mod Words
 pub mod Slots
 pub mod Growth
-pub mod Searches
 pub mod Along
 pub mod Fits
 pub mod Silence
@@ -13,3 +12,5 @@ pub mod Reached
 pub mod Finding
 pub mod Idle
 pub mod Onward
+pub mod Cores
+pub mod CoreSizes

@@ -6,15 +6,18 @@ ghost use Rattle.redn_kernel.specs.CoreRun.{cell_of};
 ghost use Rattle.redn_graph.specs.Words.{move_of, test_end, counts, counted};
 ghost use Rattle.redn_graph.specs.Statements.{is_plain, is_search, DoesStatement};
 ghost use Rattle.redn_graph.specs.Code.{Compiles, Precedes, Labels, Closes, IsOpen};
-ghost use Rattle.redn_graph.specs.Searches.{Misses, probe_of, skips, begin_at, begin_walk, follows_next, at_last};
-ghost use Rattle.redn_graph.specs.Slots.{SlotsWithin, Sized, AreSmall, block_slots, all_slots, tail_slots, tail_size};
-ghost use Rattle.redn_graph.specs.Fits.{Things, IsCell, FitsInstr, FitsBlock, FitsTail, FitsSought, Fitted, IsWithin, IsWell, AllWell};
+ghost use Rattle.redn_graph.specs.Cores.{cell_move, AllPlain, Continues};
+ghost use Rattle.redn_graph.specs.CoreSizes.{taken_of_all, blocks_in, jump_needed, Made, ForkMade, RoundMade, IsSearch};
+ghost use Rattle.redn_graph.specs.Slots.{SlotsWithin, Sized, AreSmall, instr_slots, block_slots, all_slots, tail_slots, tail_size};
+ghost use Rattle.redn_graph.specs.Fits.{Things, IsCell, FitsInstr, FitsBlock, FitsTail, Fitted, IsWithin, IsWell, AllWell};
 ghost use Rattle.redn_graph.specs.Idle.{puts_back, idle_code, idle_at};
 ghost use Rattle.redn_graph.specs.Onward.{Works, tail_idle, LeadsOn};
 ghost use Rattle.redn_graph.specs.Growth.{IsRoomy, AllSound, IsSoundOne, Grown, Bound, IsFirst};
 
 use crate::types::{Block, End, Instr};
-use redn_kernel::{Cell, Kernel, Word, cell_for};
+use redn_kernel::{Cell, Core, Kernel, Word, cell_for};
+use redn_lookup::lookup_core;
+use redn_walk::walk_core;
 use redn_words::Memory;
 use sqlite_items::Items;
 use std::alloc::Global;
@@ -38,6 +41,16 @@ pub fn move_instr(to: u16, from: Word) -> Instr
             from: Cell::Var(x),
         },
         Word::Num(value) => Instr::Set { to, value },
+    }
+}
+
+/// A move of a cell to a variable or hidden cell.
+fn move_cell(to: Cell, from: Cell) -> Instr
+    ensures { result ≡ cell_move to from }
+{
+    match from {
+        Cell::Num(value) => Instr::Set { to, value },
+        _ => Instr::Move { to, from },
     }
 }
 
@@ -123,62 +136,6 @@ pub fn open_with(alloc: Global, instr: Instr, end: End) -> Result<Tail, Memory>
     Ok(Tail::Open { instrs, end })
 }
 
-/// The hidden cell with the offset of a bucket or node.
-const AT: Cell = Cell::Hidden(0);
-
-/// The hidden cell that counts nodes.
-const NODES: Cell = Cell::Hidden(1);
-
-/// A search goes on so many bytes behind.
-fn skip(bytes: u64) -> Instr
-    ensures { result ≡ skips bytes }
-{
-    let by = Cell::Num(bytes);
-    Instr::Add { to: AT, by }
-}
-
-/// A search begins at an offset.
-fn begin(offset: Word) -> Instr
-    ensures { result ≡ begin_at offset }
-{
-    let from = cell_for(offset);
-    Instr::Move { to: AT, from }
-}
-
-/// A walk begins, and goes to its block.
-fn walk_entry(alloc: Global, offset: Word, head: u32) -> Result<Tail, Memory>
-    ensures { IfOk result (λ t. IsOpen t (begin_walk offset) (End.Jump head)) }
-{
-    let mut instrs = Vec::new(alloc);
-    instrs.push(Instr::Set {
-        to: NODES,
-        value: 0,
-    })?;
-    instrs.push(begin(offset))?;
-    let end = End::Jump { to: head };
-    Ok(Tail::Open { instrs, end })
-}
-
-/// A walk goes on at the next node, if there is one.
-fn next_node(alloc: Global, table: u16, out: u32, head: u32) -> Result<Tail, Memory>
-    ensures { IfOk result (λ t. IsOpen t (follows_next table) (at_last out head)) }
-{
-    let mut instrs = Vec::new(alloc);
-    instrs.push(Instr::Load {
-        to: AT,
-        table,
-        offset: AT,
-    })?;
-    instrs.push(skip(16))?;
-    let end = End::Test64 {
-        left: AT,
-        right: Cell::Num(0),
-        yes: out,
-        no: head,
-    };
-    Ok(Tail::Open { instrs, end })
-}
-
 /// The end of a body that is done so many times in all, by a cell that counts.
 pub fn again(alloc: Global, counter: u16, count: u32, out: u32, head: u32) -> Result<Tail, Memory>
     ensures { IfOk result (λ t. IsOpen t (counts counter ∷ []) (counted counter count out head)) }
@@ -203,6 +160,8 @@ pub fn before(alloc: Global, instr: Instr, tail: Tail) -> Result<Tail, Memory>
     ensures fits { IfOk result (λ after. (n : Things) → FitsInstr n instr → FitsTail n tail → FitsTail n after) }
     ensures size { IfOk result (λ after. tail_size after ≤ tail_size tail + 10) }
     ensures works { IfOk result (λ after. puts_back instr ≡ false → Works after) }
+    ensures continues { IfOk result (λ after. Continues instr tail after) }
+    ensures exact { IfOk result (λ after. tail_slots after ≤ tail_slots tail + instr_slots instr + jump_needed tail) }
 {
     match tail {
         Tail::To(to) => {
@@ -247,27 +206,16 @@ pub fn close(alloc: Global, tail: Tail) -> Result<Block, Memory>
     }
 }
 
-/// What a search looks for, and where it puts what it finds.
-#[derive(Clone, Copy, Debug)]
-pub struct Sought {
-    pub to: u16,
-    pub table: u16,
-    pub key: Word,
-}
-
-impl Sought {
-    /// A look at a bucket or node.
-    fn probe(self, hit: u32, miss: u32) -> End
-        ensures { result ≡ probe_of self hit miss }
-    {
-        End::Probe {
-            to: Cell::Var(self.to),
-            table: self.table,
-            offset: AT,
-            key: cell_for(self.key),
-            hit,
-            miss,
-        }
+/// The core statements of a look for a key in a table.
+fn search_cores(alloc: Global, statement: &Kernel) -> Result<Items<Core>, Memory>
+    requires sound { IsSoundOne statement.now }
+    requires looks { is_search statement.now ≡ true }
+    ensures { IfOk result (λ cores. IsSearch statement.now cores) }
+{
+    match statement {
+        Kernel::Lookup { .. } => lookup_core(alloc, statement),
+        Kernel::Walk { .. } => walk_core(alloc, statement),
+        _ => unreachable!(),
     }
 }
 
@@ -290,7 +238,10 @@ impl Builder {
         let first = builder.reserve(alloc)?;
         let round = open_with(
             alloc,
-            Instr::Set { to: AT, value: 0 },
+            Instr::Set {
+                to: Cell::Hidden(0),
+                value: 0,
+            },
             End::Jump { to: first },
         )?;
         builder.bind(alloc, first, round)?;
@@ -364,80 +315,100 @@ impl Builder {
         Ok(())
     }
 
-    /// The number of a block that looks at so many more buckets.
-    fn misses(&mut self, alloc: Global, sought: Sought, count: u8, next: u32) -> Result<u32, Memory>
-        requires { length self.old.blocks + count < 2 ^ 32 }
-        ensures misses { IfOk result (λ l. Misses self.old.blocks self.new.blocks sought count next l) }
-        ensures slots { OnOk result (all_slots self.new.blocks ≤ all_slots self.old.blocks + 44 * count) }
-        ensures blocks { OnOk result (length self.new.blocks ≤ length self.old.blocks + count) }
-        ensures more { OnOk result (length self.old.blocks ≤ length self.new.blocks) }
-        ensures hidden { self.new.hidden ≡ self.old.hidden }
-        ensures fits { IfOk result (λ l. (n : Things) → IsWithin n self.new → FitsSought n sought → next < n.blocks → Fitted n self.old.blocks self.new.blocks × (l < n.blocks)) }
-        ensures small { OnOk result ((most : ℕ) → 44 ≤ most → AreSmall most self.old.blocks → AreSmall most self.new.blocks) }
-        ensures leads { IfOk result (λ l. (exit : ℕ) → LeadsOn self.old.blocks self.new.blocks exit (Tail.To next) (Tail.To l) true false) }
+    /// Code for some core statements, before what follows them. A `Leave` leads to `exit`.
+    #[cycle(cores)]
+    fn cores(&mut self, alloc: Global, body: &[Core], tail: Tail, exit: u32) -> Result<Tail, Memory>
+        requires room { length self.old.blocks + blocks_in (taken_of_all body.now) < 2 ^ 32 }
+        requires plain { AllPlain body.now }
+        ensures { IfOk result (λ after. Made self.old self.new exit tail body.now after) }
     {
-        if count == 0 {
-            return Ok(next);
+        let Some((first, rest)) = body.split_first() else {
+            return Ok(tail);
+        };
+        let behind = self.cores(alloc, rest, tail, exit)?;
+        match first {
+            Core::Move { to, from } => before(alloc, move_cell(*to, *from), behind),
+            Core::Add { to, by } => before(alloc, Instr::Add { to: *to, by: *by }, behind),
+            Core::Load { to, table, offset } => {
+                let instr = Instr::Load {
+                    to: *to,
+                    table: *table,
+                    offset: *offset,
+                };
+                before(alloc, instr, behind)
+            }
+            Core::If {
+                wide,
+                left,
+                right,
+                yes,
+                no,
+            } => {
+                let (yes, no) = self.fork(alloc, yes.as_slice(), no.as_slice(), behind, exit)?;
+                Ok(open(alloc, test(*wide, *left, *right, yes, no)))
+            }
+            Core::Loop { body } => {
+                let head = self.round(alloc, body.as_slice(), behind)?;
+                Ok(Tail::To(head))
+            }
+            Core::Leave => Ok(Tail::To(exit)),
+            Core::Probe {
+                to,
+                table,
+                offset,
+                key,
+                hit,
+                miss,
+            } => {
+                let (hit, miss) = self.fork(alloc, hit.as_slice(), miss.as_slice(), behind, exit)?;
+                let end = End::Probe {
+                    to: *to,
+                    table: *table,
+                    offset: *offset,
+                    key: *key,
+                    hit,
+                    miss,
+                };
+                Ok(open(alloc, end))
+            }
         }
-        let miss = self.misses(alloc, sought, count - 1, next)?;
-        let step = open_with(alloc, skip(16), sought.probe(next, miss))?;
-        let number = self.label(step)?;
-        Ok(number)
     }
 
-    fn lookup(
+    /// The blocks of two branches, before what follows both.
+    #[cycle(cores)]
+    fn fork(
         &mut self,
         alloc: Global,
-        sought: Sought,
-        offset: Word,
-        probes: u8,
+        yes: &[Core],
+        no: &[Core],
         tail: Tail,
-    ) -> Result<Tail, Memory>
-        requires room { length self.old.blocks + probes + 1 < 2 ^ 32 }
-        requires some { 1 ≤ probes }
-        ensures compiles { IfOk result (λ after. (hidden exit : ℕ) → Compiles self.old.blocks self.new.blocks hidden exit (Kernel.Lookup sought.to sought.table offset sought.key probes ∷ []) tail after) }
-        ensures slots { IfOk result (λ after. SlotsWithin self.old.blocks self.new.blocks tail after (44 * probes)) }
-        ensures blocks { OnOk result (length self.new.blocks ≤ length self.old.blocks + (probes + 1)) }
-        ensures more { OnOk result (length self.old.blocks ≤ length self.new.blocks) }
-        ensures hidden { self.new.hidden ≡ self.old.hidden }
-        ensures fits { IfOk result (λ after. (n : Things) → IsWithin n self.new → FitsSought n sought → IsCell n (cell_of offset) → FitsTail n tail → Fitted n self.old.blocks self.new.blocks × FitsTail n after) }
-        ensures size { IfOk result (λ after. Sized self.old.blocks self.new.blocks tail after 2) }
-        ensures leads { IfOk result (λ after. (exit : ℕ) → LeadsOn self.old.blocks self.new.blocks exit tail after false false) }
+        exit: u32,
+    ) -> Result<(u32, u32), Memory>
+        requires room { length self.old.blocks + (3 + blocks_in (taken_of_all yes.now) + blocks_in (taken_of_all no.now)) < 2 ^ 32 }
+        requires plain { AllPlain yes.now }
+        requires plain_too { AllPlain no.now }
+        ensures { IfOk result (λ ends. ForkMade self.old self.new exit tail yes.now no.now ends.0 ends.1) }
     {
         let next = self.label(tail)?;
-        let miss = self.misses(alloc, sought, probes - 1, next)?;
-        let first = open_with(alloc, begin(offset), sought.probe(next, miss))?;
-        Ok(first)
+        let met = self.cores(alloc, yes, Tail::To(next), exit)?;
+        let unmet = self.cores(alloc, no, Tail::To(next), exit)?;
+        let yes = self.label(met)?;
+        let no = self.label(unmet)?;
+        Ok((yes, no))
     }
 
-    fn walk(
-        &mut self,
-        alloc: Global,
-        sought: Sought,
-        offset: Word,
-        nodes: u16,
-        tail: Tail,
-    ) -> Result<Tail, Memory>
-        requires room { length self.old.blocks + 4 < 2 ^ 32 }
-        requires some { 1 ≤ nodes }
-        ensures compiles { IfOk result (λ after. (hidden exit : ℕ) → Compiles self.old.blocks self.new.blocks hidden exit (Kernel.Walk sought.to sought.table offset sought.key nodes ∷ []) tail after) }
-        ensures slots { IfOk result (λ after. SlotsWithin self.old.blocks self.new.blocks tail after (185)) }
-        ensures blocks { OnOk result (length self.new.blocks ≤ length self.old.blocks + 4) }
-        ensures more { OnOk result (length self.old.blocks ≤ length self.new.blocks) }
-        ensures hidden { self.new.hidden ≡ self.old.hidden }
-        ensures fits { IfOk result (λ after. (n : Things) → IsWithin n self.new → FitsSought n sought → IsCell n (cell_of offset) → FitsTail n tail → Fitted n self.old.blocks self.new.blocks × FitsTail n after) }
-        ensures size { IfOk result (λ after. Sized self.old.blocks self.new.blocks tail after 5) }
-        ensures leads { IfOk result (λ after. (exit : ℕ) → LeadsOn self.old.blocks self.new.blocks exit tail after false false) }
+    /// The block at the front of a loop.
+    #[cycle(cores)]
+    fn round(&mut self, alloc: Global, body: &[Core], tail: Tail) -> Result<u32, Memory>
+        requires room { length self.old.blocks + (2 + blocks_in (taken_of_all body.now)) < 2 ^ 32 }
+        requires plain { AllPlain body.now }
+        ensures { IfOk result (λ head. RoundMade self.old self.new tail body.now head) }
     {
         let out = self.label(tail)?;
         let head = self.reserve(alloc)?;
-        let onward = next_node(alloc, sought.table, out, head)?;
-        let on = self.label(onward)?;
-        let turn = again(alloc, 1, u32::from(nodes), out, on)?;
-        let count = self.label(turn)?;
-        self.bind(alloc, head, open(alloc, sought.probe(out, count)))?;
-        let first = walk_entry(alloc, offset, head)?;
-        Ok(first)
+        let first = self.cores(alloc, body, Tail::To(head), out)?;
+        self.bind(alloc, head, first)?;
+        Ok(head)
     }
 
     /// Code for a look for a key in a table.
@@ -452,37 +423,9 @@ impl Builder {
         ensures size { IfOk result (λ after. Sized self.old.blocks self.new.blocks tail after (weight_of statement.now)) }
         ensures leads { IfOk result (λ after. (exit : ℕ) → LeadsOn self.old.blocks self.new.blocks exit tail after false false) }
     {
-        match statement {
-            Kernel::Lookup {
-                to,
-                table,
-                offset,
-                key,
-                probes,
-            } => {
-                let sought = Sought {
-                    to: *to,
-                    table: *table,
-                    key: *key,
-                };
-                self.lookup(alloc, sought, *offset, *probes, tail)
-            }
-            Kernel::Walk {
-                to,
-                table,
-                offset,
-                key,
-                nodes,
-            } => {
-                let sought = Sought {
-                    to: *to,
-                    table: *table,
-                    key: *key,
-                };
-                self.walk(alloc, sought, *offset, *nodes, tail)
-            }
-            _ => unreachable!(),
-        }
+        let body = search_cores(alloc, statement)?;
+        let next = self.label(tail)?;
+        self.cores(alloc, body.as_slice(), Tail::To(next), next)
     }
 
     /// Code for some statements, before what follows them. A break leads to `exit`.

@@ -21,3 +21,4 @@ pub mod CoreRuns
 pub mod Counters
 pub mod WorkedCores
 pub mod Uses
+pub mod Composing

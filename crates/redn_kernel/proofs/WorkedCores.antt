@@ -1,5 +1,6 @@
 -- Core statements, and what they show, computed.
-use Rattle.std.proofs.Common.{◌≡◌, ℕ, zero, suc, true, false, List, [], ◌∷◌, refl}
+use Rattle.std.proofs.Common.{◌≡◌, ℕ, zero, suc, true, false, List, [], ◌∷◌, refl, arith}
+use Rattle.std.proofs.lemmas.Bool.{false≢true}
 use Rattle.std.specs.List.{flat_map}
 use Rattle.redn_words.specs.declared.types.Obs.{Obs}
 use Rattle.redn_words.specs.declared.types.Obs.TheVariants as shows
@@ -8,10 +9,13 @@ use Rattle.redn_words.specs.Words.{number, spelled}
 use Rattle.redn_kernel.specs.declared.types.Cell.TheVariants.{Var, Hidden, Num}
 use Rattle.redn_kernel.specs.declared.types.Core.{Core, out-Core}
 use Rattle.redn_kernel.specs.declared.types.Core.TheVariants as s
+use Rattle.redn_kernel.specs.declared.types.Core.TheOpen.{Core-F}
+use Rattle.redn_kernel.specs.declared.types.Kernel.{Kernel}
 use Rattle.redn_kernel.specs.declared.types.Core.TheBlock.{shown-the_row-Core-0}
 use denote.Hole.Carrier as carrier
 use Rattle.redn_kernel.specs.CoreRun.{CoreState, core_does, core_item_does, core_step, cores_after, do_cores}
 use Rattle.redn_kernel.specs.Becomes.{cores_at}
+use Rattle.redn_kernel.specs.Composes.{Point, DoesHere, Composes, core_cost, begins_block}
 use Rattle.redn_kernel.specs.Found.{buckets, nodes, first_with, with_found}
 
 -- what n steps of chain 0 show over tables that don't change, without a message
@@ -76,3 +80,27 @@ the_first_with_the_key = refl
 no_key : with_found (words_of (5 ∷ 50 ∷ [])) 0 0 (1 ∷ []) (first_with (words_of (5 ∷ 50 ∷ [])) 0 7 (buckets 1 0)) ≡ 1 ∷ []
 unfolding number spelled
 no_key = refl
+
+-- adding a number costs 16 actions, and adding a word 32
+costs_of_sums : (core_cost (Core-F.Add (Hidden 0) (Num 16)) ≡ 16) × (core_cost (Core-F.Add (Hidden 0) (Var 1)) ≡ 32)
+unfolding core_cost
+costs_of_sums = (refl, refl)
+
+-- a loop begins no block by itself, and a probe does
+what_begins_a_block : (begins_block (Core-F.Loop []) ≡ false) × (begins_block (Core-F.Probe (Var 0) 0 (Hidden 0) (Num 5) [] []) ≡ true)
+unfolding begins_block
+what_begins_a_block = (refl, refl)
+
+-- at the end of a list as much has to be left as a block's beginning may spend
+abbrev end_of_a_list : ℕ → Point
+end_of_a_list worth = record { cores = []; here = λ h. []; behind = λ h. []; out = λ h. []; worth = worth }
+
+enough_is_left : DoesHere 1 (end_of_a_list 148)
+enough_is_left = (omega arith, λ h. refl)
+
+too_little_is_left : DoesHere 1 (end_of_a_list 147) → ⊥
+too_little_is_left does = omega (arith, does.0)
+
+-- no core statements aren't a statement
+nothing_is_no_statement : (statement : Kernel) → Composes statement [] → ⊥
+nothing_is_no_statement statement c = false≢true c.begins

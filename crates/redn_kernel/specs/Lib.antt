@@ -11,3 +11,4 @@ pub mod CoreRun
 pub mod Becomes
 pub mod Found
 pub mod Uses
+pub mod Composes

@@ -247,3 +247,12 @@ SomeProbes _ = Unit {0}
 pub some_probes : (statement : Kernel) (x table n : ℕ) (offset key : Word) → IsLookup statement → statement ≡ k.Lookup x table offset key n → 1 ≤ n
 some_probes st x table n offset key l e =
     subst SomeProbes (sym (k.outs-Lookup l.to l.table l.offset l.key l.probes) ∙ ap out-Kernel (sym l.is ∙ e) ∙ k.outs-Lookup x table offset key n) l.some
+
+-- and of each spelling of a lookup
+abbrev MadeIn : List Core → Kernel-F Kernel → Type 0
+MadeIn cores (Kernel-F.Lookup x table offset key n) = cores ≡ cores_of x table offset key (n - 1)
+MadeIn cores _ = Unit {0}
+
+pub made_in : (x table n x2 table2 n2 : ℕ) (offset key offset2 key2 : Word) → k.Lookup x table offset key n ≡ k.Lookup x2 table2 offset2 key2 n2 → cores_of x table offset key (n - 1) ≡ cores_of x2 table2 offset2 key2 (n2 - 1)
+made_in x table n x2 table2 n2 offset key offset2 key2 e =
+    subst (MadeIn (cores_of x table offset key (n - 1))) (sym (k.outs-Lookup x table offset key n) ∙ ap out-Kernel e ∙ k.outs-Lookup x2 table2 offset2 key2 n2) refl

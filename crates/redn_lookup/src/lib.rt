@@ -1,11 +1,12 @@
 //! A lookup as smaller statements.
 #![tactic(auto)]
 
-ghost use Rattle.std.specs.Prelude.{◌≡◌, ℕ, IfOk};
+ghost use Rattle.std.specs.Prelude.{◌≡◌, ℕ, ◌-◌, IfOk};
 ghost use Rattle.redn_kernel.specs.declared.types.Word.{Word};
 ghost use Rattle.redn_kernel.specs.Source.{value_of};
 ghost use Rattle.redn_kernel.specs.CoreRun.{cell_of};
 ghost use Rattle.redn_kernel.specs.Becomes.{Becomes};
+ghost use Rattle.redn_kernel.specs.Composes.{Composes};
 ghost use Rattle.redn_kernel.specs.Found.{LeaveFound, buckets};
 ghost use Rattle.redn_kernel.specs.Uses.{AllBelow};
 ghost use Rattle.redn_lookup.specs.Lookup.{IsLookup, bucket_of, misses_of, cores_of};
@@ -76,6 +77,9 @@ fn cores(
 pub fn lookup_core(alloc: Global, s: &Kernel) -> Result<Items<Core>, Memory>
     requires { IsLookup s.now }
     ensures same { IfOk result (λ cores. Becomes s.now cores) }
+    ensures composes { IfOk result (λ cores. Composes s.now cores) }
+    ensures cores { IfOk result (λ cores. (to table : ℕ) (offset key : Word) (probes : ℕ) →
+        s.now ≡ Kernel.Lookup to table offset key probes → cores ≡ cores_of to table offset key (probes - 1)) }
     ensures hidden { IfOk result (λ cores. AllBelow 1 cores) }
     ensures finds { IfOk result (λ cores. (to table : ℕ) (offset key : Word) (probes : ℕ) →
         s.now ≡ Kernel.Lookup to table offset key probes →

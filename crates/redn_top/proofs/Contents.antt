@@ -12,9 +12,9 @@ use Rattle.redn_image.specs.Spelling.{refused}
 use Rattle.redn_top.specs.declared.status.Status.{Status}
 use Rattle.redn_top.specs.declared.status.Status.TheVariants.{Done, Words, Schedule as BadSchedule, ReadFailed, Missing, WriteFailed, Long, Text, Program as ProgramRefused, Image, Memory, Step, Message, NotBuilt}
 use Rattle.redn_top.specs.Sources.{IsTextOf, Means}
-use Rattle.redn_top.specs.Reasons.{Nil, Or, Never, NoneHolds, no_tree, no_program, wrong_line, source_reasons, image_reasons, listing_reasons, First}
+use Rattle.redn_top.specs.Reasons.{Never, NoneHolds, no_tree, no_program, wrong_line, source_reasons, image_reasons, listing_reasons, First}
 use Rattle.redn_top.specs.Refusals.{Refuses, SourceRefused}
-use Rattle.redn_top.proofs.FirstReason.{first_here, first_behind, refuses_map, same_text}
+use Rattle.redn_top.proofs.FirstReason.{same_text}
 
 module _ (text : List ℕ) where
   -- a text with a tree isn't refused for having none

@@ -5,7 +5,7 @@ use Rattle.std.specs.Option.{option_map}
 use Rattle.redn_kernel.specs.declared.types.Program.{Program}
 use Rattle.redn_outside.specs.Counts.{Rose}
 use Rattle.redn_outside.specs.Files.{Files, OthersStay, with_file}
-use Rattle.redn_outside.specs.Seen.{StoreSeen, SinkSeen, KeepsFiles, WriteFailed as FailedWrite}
+use Rattle.redn_outside.specs.Seen.{StoreSeen, SinkSeen, KeepsFiles}
 use Rattle.redn_image.specs.Rules.{Image}
 use Rattle.redn_image.specs.Spelling.{Spells}
 use Rattle.redn_image.specs.Faithful.{Faithful}
@@ -17,9 +17,9 @@ use Rattle.redn_top.specs.declared.status.Status.{Status}
 use Rattle.redn_top.specs.declared.status.Status.TheVariants.{Done, Words, Schedule as BadSchedule, ReadFailed, Missing, WriteFailed, Long, Text, Program as ProgramRefused, Image as ImageRefused, Memory, Step, Message, NotBuilt}
 use Rattle.redn_top.specs.Sources.{Means}
 use Rattle.redn_top.specs.RunText.{planned}
-use Rattle.redn_top.specs.Reasons.{Input, IsInput, IsPlanInput, NoneHolds, First, read_reasons, plan_reads, run_reads, source_reasons, image_reasons, reasons}
-use Rattle.redn_top.specs.Answers.{Written, Compiled, Ran, RunsMade, IsMadePart, IsRunPart, opened, kept, with_written, Answered, LostLast, BrokeOff, Ends, Finishes, OthersStayThan, Spares, status_of}
-use Rattle.redn_top.specs.Refusals.{IsHeld, IsPlanHeld, HasText, IsRunnable, IsFew, MakesActions, ReadsRefuse, RunReadRefused, Refuses, ImageRan, MadeWhole, MadeStopped, WriteRefused, RunEnded, RunBroke, RunLost, RunEnds, run_of}
+use Rattle.redn_top.specs.Reasons.{Input, IsInput, IsPlanInput, NoneHolds, read_reasons, plan_reads, run_reads, source_reasons, image_reasons, reasons}
+use Rattle.redn_top.specs.Answers.{Written, Compiled, Ran, RunsMade, IsMadePart, IsRunPart, opened, kept, with_written, Answered, Ends, OthersStayThan, Spares, status_of}
+use Rattle.redn_top.specs.Refusals.{IsHeld, IsPlanHeld, HasText, IsRunnable, IsFew, MakesActions, RunReadRefused, Refuses, ImageRan, MadeWhole, MadeStopped, WriteRefused, RunEnded, RunEnds, run_of}
 use Rattle.redn_top.proofs.FirstReason.{first_here, first_behind, none_both, refuses_map, reads_map, read_passed, rose_from}
 use Rattle.redn_top.proofs.ImageRuns.{told_nothing}
 use Rattle.redn_top.proofs.Ending.{written_nothing, written_one, reads_end, contents_end, write_ends}

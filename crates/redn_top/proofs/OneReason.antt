@@ -1,5 +1,5 @@
 -- Words mean one command, and what it finds gives one reason.
-use Rattle.std.proofs.Common.{◌≡◌, ℕ, ◌≤◌, List, [], ◌∷◌, ◌++◌, inl, inr, refl, sym, ap, subst, ◌∙◌, arith}
+use Rattle.std.proofs.Common.{◌≡◌, ℕ, ◌≤◌, List, inl, inr, refl, sym, ap, subst, ◌∙◌, arith}
 use Rattle.std.specs.Prelude.{Option, Some, None}
 use Rattle.redn_outside.specs.Files.{Files}
 use Rattle.redn_outside.specs.Seen.{StoreSeen, SinkSeen}
@@ -9,9 +9,9 @@ use Rattle.redn_top.specs.declared.status.Status.{Status}
 use Rattle.redn_top.specs.declared.status.Status.TheVariants.{Done, Words, Schedule as BadSchedule, ReadFailed, Missing, WriteFailed, Long, Text, Program as ProgramRefused, Image as ImageRefused, Memory, Step, Message, NotBuilt}
 use Rattle.redn_top.specs.StatusText.{code_of}
 use Rattle.redn_command.specs.declared.limits.TheConstants.{MOST_STEPS}
-use Rattle.redn_command.specs.Words.{Command, Check, Compile, Run, Go, Disasm, Assemble, Gen, Plan, Schedule, Fair, Shuffle, RunWords, MessageWord, Line, most_steps, GivesPlan, IsCommand}
+use Rattle.redn_command.specs.Words.{Command, Check, Compile, Run, Go, Disasm, Assemble, Gen, Plan, Schedule, Fair, Shuffle, MessageWord, Line, most_steps, GivesPlan, IsCommand}
 use Rattle.redn_top.specs.Refusals.{IsRunnable, CanRun}
-use Rattle.redn_top.specs.Reasons.{Input, IsInput, IsPlanInput, plan_reads, run_reads, not_built, Reasons, Nil, Or, also, NoneHolds, First, missing, too_long, no_tree, no_program, no_image, wrong_line, broken_rows, read_reasons, source_reasons, image_reasons, listing_reasons, reasons}
+use Rattle.redn_top.specs.Reasons.{Input, IsInput, IsPlanInput, plan_reads, run_reads, Reasons, Nil, Or, also, NoneHolds, First, missing, too_long, no_tree, no_program, no_image, wrong_line, broken_rows, read_reasons, source_reasons, image_reasons, listing_reasons, reasons}
 use Rattle.redn_top.specs.Answers.{Written, Ran, RunsMade, MadeMessages, MadeEnd, RunsImage, BadMessages, ToEnd, Stops, Meets, Finishes, Answered, Ends, IfSpoken, IsRunEnd, IsFinish, IsFinishOrWant, NoneFailed}
 
 -- ---- words

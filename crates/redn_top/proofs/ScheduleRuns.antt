@@ -1,5 +1,5 @@
 -- Runs under the text of a schedule, line by line.
-use Rattle.std.proofs.Common.{◌≡◌, ℕ, zero, suc, ◌+◌, ◌-◌, ◌<◌, ◌≤◌, ◌==◌, true, false, List, [], ◌∷◌, ◌++◌, length, map, take, drop, inl, inr, refl, sym, ap, subst, ◌∙◌, arith, append_assoc, append-nil}
+use Rattle.std.proofs.Common.{◌≡◌, ℕ, zero, suc, ◌+◌, ◌-◌, ◌<◌, ◌≤◌, ◌==◌, true, List, [], ◌∷◌, ◌++◌, length, take, drop, inl, inr, refl, sym, ap, subst, ◌∙◌, arith, append_assoc, append-nil}
 use Rattle.std.specs.Prelude.{Option, Some, None}
 use Rattle.std.specs.Option.{option_map}
 use Rattle.std.proofs.lemmas.Bool.Decides.{nat_tests}
@@ -7,20 +7,20 @@ use Rattle.std.proofs.lemmas.List.{map-append, take_all}
 use Rattle.redn_words.specs.declared.types.Action.{Action}
 use Rattle.redn_words.specs.declared.types.Obs.{Obs}
 use Rattle.redn_words.specs.States.{State}
-use Rattle.redn_words.specs.Steps.{possible, after, shown}
+use Rattle.redn_words.specs.Steps.{possible, shown}
 use Rattle.redn_words.specs.Runs.{AllPossible, reached}
 use Rattle.redn_adapter.specs.Running.{Running}
 use Rattle.redn_trace.specs.EventText.{event_text}
-use Rattle.redn_outside.specs.Seen.{SinkSeen, PutFailed}
+use Rattle.redn_outside.specs.Seen.{SinkSeen}
 use Rattle.redn_sched.specs.declared.text.Numbered.{Numbered}
 use Rattle.redn_sched.specs.declared.reader.Got.{Got}
 use Rattle.redn_sched.specs.declared.reader.Got.TheVariants.{More, Action as AnAction, Bad}
 use Rattle.redn_sched.specs.ScheduleText.{lines_of, lines_after, Reads, Begins}
-use Rattle.redn_sched.specs.Pieces.{Reader, first_reader, StillReads, StillBegins, ReadsOn, BeginsOn, actions_got, bad_got, behind_line, Takes, TakesWhole, TakesLine, FedBy, IsFed}
+use Rattle.redn_sched.specs.Pieces.{Reader, first_reader, StillReads, StillBegins, ReadsOn, BeginsOn, actions_got, bad_got, Takes, FedBy, IsFed}
 use Rattle.redn_top.specs.declared.status.Status.{Status}
 use Rattle.redn_top.specs.declared.status.Status.TheVariants.{Done, Words, Schedule as BadSchedule, ReadFailed, Missing, WriteFailed, Long, Text, Program, Image, Memory, Step, Message, NotBuilt}
-use Rattle.redn_top.specs.RunText.{actions_of, events_text, BreaksOff, MeetsBad, StopsAt}
-use Rattle.redn_top.specs.Refusals.{FaultsStay, PutRefused, RunRefused}
+use Rattle.redn_top.specs.RunText.{actions_of, events_text}
+use Rattle.redn_top.specs.Refusals.{FaultsStay, RunRefused}
 use Rattle.redn_top.specs.Makers.{Makes, RanAll, StepRefused}
 use Rattle.redn_top.proofs.RunLemmas.{AllPossible-append, AllPossible-push, reached-append, events_text-append, option_map-twice, failed_later, Stepped}
 

@@ -1,5 +1,5 @@
 -- What makes the steps of a run, one after the other.
-use Rattle.std.specs.Prelude.{◌≡◌, ℕ, ◌+◌, true, false, take, List, [], ◌∷◌, ◌++◌, length, Option, Some, None}
+use Rattle.std.specs.Prelude.{◌≡◌, ℕ, ◌+◌, true, false, take, List, ◌++◌, length, Option, Some, None}
 use Rattle.std.specs.Option.{option_map}
 use Rattle.redn_words.specs.declared.types.Action.{Action}
 use Rattle.redn_words.specs.States.{State}
@@ -10,7 +10,7 @@ use Rattle.redn_outside.specs.Seen.{SinkSeen, PutFailed}
 use Rattle.redn_trace.specs.EventText.{event_text}
 use Rattle.redn_sched.specs.declared.text.Numbered.{Numbered}
 use Rattle.redn_sched.specs.declared.reader.Got.{Got}
-use Rattle.redn_sched.specs.declared.reader.Got.TheVariants.{More, Action as AnAction, Bad}
+use Rattle.redn_sched.specs.declared.reader.Got.TheVariants.{Action as AnAction, Bad}
 use Rattle.redn_sched.specs.ScheduleText.{lines_of, Reads}
 use Rattle.redn_sched.specs.MadeSchedules.{first_cursors, fair_from}
 use Rattle.redn_sched.specs.Shuffles.{first_shuffling, shuffled_from}

@@ -5,10 +5,7 @@ use Rattle.redn_words.specs.States.{State}
 use Rattle.redn_outside.specs.Files.{Files, OthersStay}
 use Rattle.redn_outside.specs.Seen.{StoreSeen, SinkSeen, ReadFailed, WriteFailed, PutFailed, MissingRose, LongRose}
 use Rattle.redn_image.specs.Rules.{Image}
-use Rattle.redn_image.specs.Faithful.{start_of}
 use Rattle.redn_words.specs.declared.types.Action.{Action}
-use Rattle.redn_sched.specs.declared.text.Numbered.{Numbered}
-use Rattle.redn_sched.specs.ScheduleText.{Begins}
 use Rattle.redn_syntax.specs.declared.tree.File.{File}
 use Rattle.redn_check.specs.Faults.{fault, IsFirst}
 use Rattle.redn_check.specs.Rules.{Accepts, faults}
@@ -19,7 +16,7 @@ use Rattle.redn_command.specs.declared.limits.TheConstants.{MOST_STEPS}
 use Rattle.hex.specs.Hex.{decode_of}
 use Rattle.redn_top.specs.MessageWords.{bad_hex, messages}
 use Rattle.redn_top.specs.Sources.{TextRefused, RuleBroken}
-use Rattle.redn_top.specs.RunText.{BreaksOff, MeetsBad, IsCut, StopsAt, planned, steps_asked, made_text}
+use Rattle.redn_top.specs.RunText.{BreaksOff, MeetsBad, IsCut, StopsAt, steps_asked, made_text}
 use Rattle.redn_top.specs.Reasons.{Finds, IsPlanInput, NoneHolds, Reasons, First, message_reasons, read_reasons, run_reads}
 use Rattle.redn_top.specs.Answers.{Written, with_written, kept, Ran, IsRunPart, RunsMade, RunsImage, IsMadePart, opened}
 use Rattle.redn_top.specs.declared.limits.TheConstants.{SCHEDULE_LIMIT}

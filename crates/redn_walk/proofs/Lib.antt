@@ -1,3 +1,4 @@
 pub mod Walks
 pub mod Worked
 pub mod Uses
+pub mod Composed

@@ -430,3 +430,12 @@ SomeNodes _ = Unit {0}
 pub some_nodes : (st : Kernel) (x table n : ℕ) (offset key : Word) → IsWalk st → st ≡ k.Walk x table offset key n → 1 ≤ n
 some_nodes st x table n offset key w e =
     subst SomeNodes (sym (k.outs-Walk w.to w.table w.offset w.key w.nodes) ∙ ap out-Kernel (sym w.is ∙ e) ∙ k.outs-Walk x table offset key n) w.some
+
+-- and of each spelling of a walk
+abbrev MadeIn : List Core → Kernel-F Kernel → Type 0
+MadeIn cores (Kernel-F.Walk x table offset key n) = cores ≡ cores_of x table offset key n
+MadeIn cores _ = Unit {0}
+
+pub made_in : (x table n x2 table2 n2 : ℕ) (offset key offset2 key2 : Word) → k.Walk x table offset key n ≡ k.Walk x2 table2 offset2 key2 n2 → cores_of x table offset key n ≡ cores_of x2 table2 offset2 key2 n2
+made_in x table n x2 table2 n2 offset key offset2 key2 e =
+    subst (MadeIn (cores_of x table offset key n)) (sym (k.outs-Walk x table offset key n) ∙ ap out-Kernel e ∙ k.outs-Walk x2 table2 offset2 key2 n2) refl

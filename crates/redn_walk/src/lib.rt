@@ -5,6 +5,7 @@ ghost use Rattle.std.specs.Prelude.{◌≡◌, ℕ, List, IfOk};
 ghost use Rattle.redn_kernel.specs.declared.types.Word.{Word};
 ghost use Rattle.redn_kernel.specs.Source.{value_of};
 ghost use Rattle.redn_kernel.specs.Becomes.{Becomes};
+ghost use Rattle.redn_kernel.specs.Composes.{Composes};
 ghost use Rattle.redn_kernel.specs.Found.{LeaveFound, nodes};
 ghost use Rattle.redn_kernel.specs.Uses.{AllBelow};
 ghost use Rattle.redn_walk.specs.Walk.{IsWalk, step_of, turn_of, miss_of, leave_of, body_of, cores_of};
@@ -123,6 +124,9 @@ fn cores(
 pub fn walk_core(alloc: Global, s: &Kernel) -> Result<Items<Core>, Memory>
     requires { IsWalk s.now }
     ensures same { IfOk result (λ cores. Becomes s.now cores) }
+    ensures composes { IfOk result (λ cores. Composes s.now cores) }
+    ensures cores { IfOk result (λ cores. (to table : ℕ) (offset key : Word) (nodes : ℕ) →
+        s.now ≡ Kernel.Walk to table offset key nodes → cores ≡ cores_of to table offset key nodes) }
     ensures hidden { IfOk result (λ cores. AllBelow 2 cores) }
     ensures finds { IfOk result (λ cores. (to table : ℕ) (offset key : Word) (count : ℕ) →
         s.now ≡ Kernel.Walk to table offset key count →

@@ -6,11 +6,13 @@ use Rattle.redn_kernel.specs.declared.types.Kernel.TheVariants as k
 use Rattle.redn_kernel.specs.declared.types.Core.{Core}
 use Rattle.redn_kernel.specs.Source.{value_of}
 use Rattle.redn_kernel.specs.Becomes.{Becomes}
+use Rattle.redn_kernel.specs.Composes.{Composes}
 use Rattle.redn_kernel.specs.Found.{LeaveFound, buckets}
 use Rattle.redn_lookup.specs.Lookup.{cores_of}
 use Rattle.redn_kernel.specs.Uses.{AllBelow}
 use Rattle.redn_lookup.proofs.Uses.{lookup_uses}
-use Rattle.redn_lookup.proofs.Lookups.{lookup_becomes, lookup_finds, finds_in, some_probes}
+use Rattle.redn_lookup.proofs.Lookups.{lookup_becomes, lookup_finds, finds_in, some_probes, made_in}
+use Rattle.redn_lookup.proofs.Composed.{lookup_composes}
 use Rattle.redn_lookup.proofs.lookup_core.Goals as goal
 
 ok_of : (r : Result (List Core) Memory) (made : List Core) (P : List Core → Type 0) → P made → IfOk r (λ cores. cores ≡ made) → IfOk r P
@@ -40,3 +42,18 @@ pub returns-clause-hidden : goal.returns-clause-hidden
 returns-clause-hidden c =
     let i = c.in-Lookup in
     ok_of c.cores.result _ (AllBelow 1) (lookup_uses i.to i.table i.offset i.key (i.probes - 1)) c.cores.ensures
+
+pub returns-clause-composes : goal.returns-clause-composes
+returns-clause-composes c =
+    let i = c.in-Lookup in
+    let some = some_probes c.args.s.now i.to i.table i.probes i.offset i.key c.requires i.is in
+    let all : suc (i.probes - 1) ≡ i.probes = omega (arith, some) in
+    let is = ap (k.Lookup i.to i.table i.offset i.key) all ∙ sym i.is in
+    ok_of c.cores.result _ (Composes c.args.s.now) (subst (λ (st : Kernel). Composes st (cores_of i.to i.table i.offset i.key (i.probes - 1))) is (lookup_composes i.to i.table i.offset i.key (i.probes - 1))) c.cores.ensures
+
+pub returns-clause-cores : goal.returns-clause-cores
+returns-clause-cores c =
+    let i = c.in-Lookup in
+    ok_of c.cores.result _ (λ cores. (to table : ℕ) (offset key : Word) (probes : ℕ) → c.args.s.now ≡ k.Lookup to table offset key probes → cores ≡ cores_of to table offset key (probes - 1))
+    (λ to table offset key probes is. made_in i.to i.table i.probes to table probes i.offset i.key offset key (sym i.is ∙ is))
+    c.cores.ensures

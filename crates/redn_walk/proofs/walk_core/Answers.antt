@@ -6,11 +6,13 @@ use Rattle.redn_kernel.specs.declared.types.Kernel.TheVariants as k
 use Rattle.redn_kernel.specs.declared.types.Core.{Core}
 use Rattle.redn_kernel.specs.Source.{value_of}
 use Rattle.redn_kernel.specs.Becomes.{Becomes}
+use Rattle.redn_kernel.specs.Composes.{Composes}
 use Rattle.redn_kernel.specs.Found.{LeaveFound, nodes}
 use Rattle.redn_walk.specs.Walk.{cores_of}
 use Rattle.redn_kernel.specs.Uses.{AllBelow}
 use Rattle.redn_walk.proofs.Uses.{walk_uses}
-use Rattle.redn_walk.proofs.Walks.{walk_becomes, walk_finds, finds_in, some_nodes}
+use Rattle.redn_walk.proofs.Walks.{walk_becomes, walk_finds, finds_in, some_nodes, made_in}
+use Rattle.redn_walk.proofs.Composed.{walk_composes}
 use Rattle.redn_walk.proofs.walk_core.Goals as goal
 
 ok_of : (r : Result (List Core) Memory) (made : List Core) (P : List Core → Type 0) → P made → IfOk r (λ cores. cores ≡ made) → IfOk r P
@@ -40,3 +42,17 @@ pub returns-clause-hidden : goal.returns-clause-hidden
 returns-clause-hidden c =
     let i = c.in-Walk in
     ok_of c.cores.result _ (AllBelow 2) (walk_uses i.to i.table i.offset i.key i.nodes) c.cores.ensures
+
+pub returns-clause-composes : goal.returns-clause-composes
+returns-clause-composes c =
+    let i = c.in-Walk in
+    let some = some_nodes c.args.s.now i.to i.table i.nodes i.offset i.key c.requires i.is in
+    let few : i.nodes < 281474976710656 = omega arith in
+    ok_of c.cores.result _ (Composes c.args.s.now) (subst (λ (st : Kernel). Composes st (cores_of i.to i.table i.offset i.key i.nodes)) (sym i.is) (walk_composes i.to i.table i.offset i.key i.nodes some few)) c.cores.ensures
+
+pub returns-clause-cores : goal.returns-clause-cores
+returns-clause-cores c =
+    let i = c.in-Walk in
+    ok_of c.cores.result _ (λ cores. (to table : ℕ) (offset key : Word) (nodes : ℕ) → c.args.s.now ≡ k.Walk to table offset key nodes → cores ≡ cores_of to table offset key nodes)
+    (λ to table offset key nodes is. made_in i.to i.table i.nodes to table nodes i.offset i.key offset key (sym i.is ∙ is))
+    c.cores.ensures

@@ -1,4 +1,4 @@
-use Rattle.std.proofs.Common.{◌≡◌, ◌++◌, [], ◌∷◌, append-nil, ap, subst, ◌∙◌}
+use Rattle.std.proofs.Common.{◌≡◌, [], ◌∷◌, ap, subst, ◌∙◌}
 use Rattle.redn_trace.specs.EventText.{event_text, IsPrintable}
 use Rattle.redn_top.specs.RunText.{events_text}
 use Rattle.redn_top.proofs.RunLemmas.{step_some, events_text-push}

@@ -1,10 +1,10 @@
-use Rattle.std.proofs.Common.{◌≡◌, ℕ, List, [], length, take, drop, subst, sym, ◌∙◌}
+use Rattle.std.proofs.Common.{◌≡◌, ℕ, List, length, subst, sym, ◌∙◌}
 use Rattle.std.proofs.lemmas.Result.{err_from_is_err_and, IfErr-weaker}
 use Rattle.redn_top.specs.Refusals.{RunRefused}
 use Rattle.redn_top.specs.Makers.{StepRefused}
 use Rattle.redn_top.proofs.RunLemmas.{faults_here, later_faults}
 use Rattle.redn_top.proofs.MadeRuns.{both_ok}
-use Rattle.redn_top.proofs.ScheduleRuns.{ReadSoFar, read_none, read_more, begins_here, bad_here, bad_kept, takes_some, got_enough, left_length, left_whole, step_ends, at_end, begins_last, bad_last, read_all, is_none}
+use Rattle.redn_top.proofs.ScheduleRuns.{ReadSoFar, read_none, read_more, begins_here, bad_here, bad_kept, got_enough, left_length, left_whole, step_ends, at_end, begins_last, bad_last, read_all, is_none}
 use Rattle.redn_top.proofs.run.run.Goals as goal
 
 pub loop-rest-init : goal.loop-rest-init

@@ -1,5 +1,5 @@
-use Rattle.std.proofs.Common.{◌≡◌, ℕ, suc, true, List, Vec, Global, [], ◌∷◌, ◌++◌, subst, ap, arith, refl, sym, ◌∙◌}
-use Rattle.std.specs.Prelude.{Some, codes, IfErr}
+use Rattle.std.proofs.Common.{◌≡◌, ℕ, suc, true, Vec, Global, [], ◌∷◌, ◌++◌, subst, ap, arith, refl, sym, ◌∙◌}
+use Rattle.std.specs.Prelude.{Some, codes}
 use Rattle.std.proofs.lemmas.Result.{err_from_is_err_and, IfErr-weaker}
 use Rattle.redn_words.specs.declared.types.Action.{Action}
 use Rattle.redn_words.specs.Steps.{after}

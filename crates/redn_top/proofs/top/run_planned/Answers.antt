@@ -1,5 +1,5 @@
 use Rattle.std.proofs.Common.{◌≡◌, ℕ, true, List, map, string_bytes, sym, ap, subst, ◌∙◌}
-use Rattle.std.specs.Prelude.{Option, Some, OnOk, is_some}
+use Rattle.std.specs.Prelude.{Some, OnOk, is_some}
 use Rattle.std.specs.Option.{option_map}
 use Rattle.std.proofs.lemmas.Result.{err_from_is_err_and}
 use Rattle.redn_outside.specs.Files.{with_file}

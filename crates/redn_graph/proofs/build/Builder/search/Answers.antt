@@ -1,88 +1,87 @@
-use Rattle.std.proofs.Common.{◌+◌, [], ◌∷◌, sym, ap, ◌∙◌, subst, arith}
-use Rattle.redn_kernel.specs.declared.types.Kernel.{Kernel}
-use Rattle.redn_kernel.specs.Program.{weight_of}
-use Rattle.redn_kernel.proofs.Cases.{weight_of_lookup, weight_of_walk}
-use Rattle.redn_graph.specs.Code.{Compiles}
-use Rattle.redn_graph.proofs.Statements.{ok_still, search_grown, probes_few, nodes_some}
-use Rattle.redn_graph.proofs.Fits.{lookup_fits, walk_fits}
-use Rattle.redn_graph.proofs.Slots.{sized_as}
+use Rattle.std.proofs.Common.{◌≤◌, false, List, length, sym, ap, subst, arith}
+use Rattle.redn_kernel.specs.declared.types.Core.{Core}
+use Rattle.redn_graph.specs.Cores.{AllPlain}
+use Rattle.redn_graph.specs.CoreSizes.{Made, blocks_in, taken_of_all}
+use Rattle.redn_graph.specs.declared.build.Tail.TheVariants.{To}
+use Rattle.redn_graph.proofs.Statements.{ok_still, ok_on}
+use Rattle.redn_graph.proofs.Slots.{to_slots, to_size}
+use Rattle.redn_graph.proofs.Fits.{fitted_then}
+use Rattle.redn_graph.proofs.Stopping.{added_then}
+use Rattle.redn_graph.proofs.LeadingOn.{onward_works}
+use Rattle.redn_graph.proofs.CoreCode.{compiles_search}
 use Rattle.redn_graph.proofs.build.Builder.search.Goals as goal
 
-pub lookup-requires : goal.lookup-requires
-lookup-requires c =
-    let i = c.in-Lookup in
-    let few = probes_few c.args.statement.now i.to i.table i.offset i.key i.probes i.is c.requires.sound in
-    record { room = omega arith; some = few.0 }
+pub cores-requires : goal.cores-requires
+cores-requires c =
+    let s = c.in_ok-body.ensures in
+    record { room = omega (arith, c.requires.room, s.blocks, c.in_ok-next.ensures.blocks, ap (λ (list : List Core). blocks_in (taken_of_all list)) c.as_slice.ensures); plain = subst AllPlain (sym c.as_slice.ensures) s.plain }
 
-pub walk-requires : goal.walk-requires
-walk-requires c =
-    let i = c.in-Walk in
-    record { room = omega arith; some = nodes_some c.args.statement.now i.to i.table i.offset i.key i.nodes i.is c.requires.sound }
-
-pub returns-in-Lookup-clause-compiles : goal.returns-in-Lookup-clause-compiles
-returns-in-Lookup-clause-compiles c =
+pub returns-clause-compiles : goal.returns-clause-compiles
+returns-clause-compiles c =
     let a = c.args in
-    ok_still c.lookup.result _ _
-    (λ after compiles hidden exit. subst (λ (st : Kernel). Compiles a.self.now.blocks c.lookup.new.self.blocks hidden exit (st ∷ []) a.tail after) (sym c.in-Lookup.is) (compiles hidden exit))
-    c.lookup.ensures.compiles
+    let s = c.in_ok-body.ensures in
+    let next = c.in_ok-next.next in
+    ok_still c.cores.result _ _
+    (λ after made hidden exit.
+    let m = subst (λ (list : List Core). Made c.label.new.self c.cores.new.self next (To next) list after) c.as_slice.ensures made in
+    compiles_search hidden exit a.statement.now c.in_ok-body.body a.tail after next s.composes m.works c.in_ok-next.ensures.labels m.compiles)
+    c.cores.ensures
 
-pub returns-in-Walk-clause-compiles : goal.returns-in-Walk-clause-compiles
-returns-in-Walk-clause-compiles c =
+pub returns-clause-slots : goal.returns-clause-slots
+returns-clause-slots c =
+    let s = c.in_ok-body.ensures in
+    let next = c.in_ok-next.next in
+    ok_still c.cores.result _ _
+    (λ after made.
+    let m = subst (λ (list : List Core). Made c.label.new.self c.cores.new.self next (To next) list after) c.as_slice.ensures made in
+    omega (arith, m.slots, s.slots, to_slots next, c.in_ok-next.ensures.slots))
+    c.cores.ensures
+
+pub returns-clause-grown : goal.returns-clause-grown
+returns-clause-grown c =
+    let s = c.in_ok-body.ensures in
+    let next = c.in_ok-next.next in
+    let l = c.in_ok-next.ensures in
+    ok_on c.cores.result _ _
+    (λ after made.
+    let m = subst (λ (list : List Core). Made c.label.new.self c.cores.new.self next (To next) list after) c.as_slice.ensures made in
+    record { more = omega (arith, m.hidden, l.hidden); cells = omega (arith, m.hidden, l.hidden); longer = omega (arith, m.longer, l.more); blocks = omega (arith, m.blocks, l.blocks, s.blocks) })
+    c.cores.ensures
+
+pub returns-clause-fits : goal.returns-clause-fits
+returns-clause-fits c =
+    let s = c.in_ok-body.ensures in
+    let next = c.in_ok-next.next in
+    ok_still c.cores.result _ _
+    (λ after made n within well tail.
+    let m = subst (λ (list : List Core). Made c.label.new.self c.cores.new.self next (To next) list after) c.as_slice.ensures made in
+    let few : length c.label.new.self.blocks ≤ n.blocks = omega (arith, within.few_blocks, m.longer) in
+    let x = c.in_ok-next.ensures.fits n few tail in
+    let y = m.fits n within x.1 (s.fits n within.searches well) x.1 in
+    (fitted_then n x.0 y.0, y.1))
+    c.cores.ensures
+
+pub returns-clause-size : goal.returns-clause-size
+returns-clause-size c =
+    let s = c.in_ok-body.ensures in
+    let next = c.in_ok-next.next in
+    ok_still c.cores.result _ _
+    (λ after made size most some fits room small.
+    let m = subst (λ (list : List Core). Made c.label.new.self c.cores.new.self next (To next) list after) c.as_slice.ensures made in
+    let x = c.in_ok-next.ensures.small most (omega (arith, fits, room)) small in
+    let y = m.size size most some (omega (arith, some, to_size next)) (omega (arith, room, s.instrs)) x in
+    (y.0, omega (arith, y.1, s.instrs)))
+    c.cores.ensures
+
+pub returns-clause-leads : goal.returns-clause-leads
+returns-clause-leads c =
     let a = c.args in
-    ok_still c.walk.result _ _
-    (λ after compiles hidden exit. subst (λ (st : Kernel). Compiles a.self.now.blocks c.walk.new.self.blocks hidden exit (st ∷ []) a.tail after) (sym c.in-Walk.is) (compiles hidden exit))
-    c.walk.ensures.compiles
-
-pub returns-in-Lookup-clause-grown : goal.returns-in-Lookup-clause-grown
-returns-in-Lookup-clause-grown c =
-    let i = c.in-Lookup in
-    let few = probes_few c.args.statement.now i.to i.table i.offset i.key i.probes i.is c.requires.sound in
-    let whole = ap weight_of i.is ∙ weight_of_lookup _ _ _ _ _ in
-    search_grown c.lookup.result c.args.self.now c.lookup.new.self (i.probes + 1) (weight_of c.args.statement.now) c.lookup.ensures.hidden (omega arith) c.lookup.ensures.more c.lookup.ensures.blocks
-
-pub returns-in-Walk-clause-grown : goal.returns-in-Walk-clause-grown
-returns-in-Walk-clause-grown c =
-    let whole = ap weight_of c.in-Walk.is ∙ weight_of_walk _ _ _ _ _ in
-    search_grown c.walk.result c.args.self.now c.walk.new.self 4 (weight_of c.args.statement.now) c.walk.ensures.hidden (omega arith) c.walk.ensures.more c.walk.ensures.blocks
-
-pub returns-in-Lookup-clause-slots : goal.returns-in-Lookup-clause-slots
-returns-in-Lookup-clause-slots c =
-    let i = c.in-Lookup in
-    let sized = probes_few c.args.statement.now i.to i.table i.offset i.key i.probes i.is c.requires.sound in
-    let whole = ap weight_of i.is ∙ weight_of_lookup _ _ _ _ _ in
-    ok_still c.lookup.result _ _ (λ after few. omega (arith, few, whole, sized)) c.lookup.ensures.slots
-
-pub returns-in-Walk-clause-slots : goal.returns-in-Walk-clause-slots
-returns-in-Walk-clause-slots c =
-    let whole = ap weight_of c.in-Walk.is ∙ weight_of_walk _ _ _ _ _ in
-    ok_still c.walk.result _ _ (λ after few. omega (arith, few, whole)) c.walk.ensures.slots
-
-pub returns-in-Lookup-clause-fits : goal.returns-in-Lookup-clause-fits
-returns-in-Lookup-clause-fits c =
-    let i = c.in-Lookup in
-    ok_still c.lookup.result _ _
-    (λ after fits n within well tail.
-    let h = lookup_fits n c.args.statement.now i.to i.table i.offset i.key i.probes i.is well in
-    fits n within (h.0, h.1, h.3) h.2 tail)
-    c.lookup.ensures.fits
-
-pub returns-in-Walk-clause-fits : goal.returns-in-Walk-clause-fits
-returns-in-Walk-clause-fits c =
-    let i = c.in-Walk in
-    ok_still c.walk.result _ _
-    (λ after fits n within well tail.
-    let h = walk_fits n c.args.statement.now i.to i.table i.offset i.key i.nodes i.is well in
-    fits n within (h.0, h.1, h.3) h.2 tail)
-    c.walk.ensures.fits
-
-pub returns-in-Lookup-clause-size : goal.returns-in-Lookup-clause-size
-returns-in-Lookup-clause-size c =
-    let i = c.in-Lookup in
-    let sized = probes_few c.args.statement.now i.to i.table i.offset i.key i.probes i.is c.requires.sound in
-    let whole = ap weight_of i.is ∙ weight_of_lookup _ _ _ _ _ in
-    ok_still c.lookup.result _ _ (sized_as c.args.self.now.blocks c.lookup.new.self.blocks c.args.tail 2 (weight_of c.args.statement.now) (omega (arith, whole, sized))) c.lookup.ensures.size
-
-pub returns-in-Walk-clause-size : goal.returns-in-Walk-clause-size
-returns-in-Walk-clause-size c =
-    let whole = ap weight_of c.in-Walk.is ∙ weight_of_walk _ _ _ _ _ in
-    ok_still c.walk.result _ _ (sized_as c.args.self.now.blocks c.walk.new.self.blocks c.args.tail 5 (weight_of c.args.statement.now) (omega (arith, whole))) c.walk.ensures.size
+    let s = c.in_ok-body.ensures in
+    let next = c.in_ok-next.next in
+    ok_still c.cores.result _ _
+    (λ after made exit all among.
+    let m = subst (λ (list : List Core). Made c.label.new.self c.cores.new.self next (To next) list after) c.as_slice.ensures made in
+    let x = c.in_ok-next.ensures.leads exit all among in
+    let y = m.leads x.among x.added.all_stop x.among in
+    onward_works a.self.now.blocks c.cores.new.self.blocks exit a.tail after false false (added_then x.added y.added) (m.works s.composes.begins))
+    c.cores.ensures
