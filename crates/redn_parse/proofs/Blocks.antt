@@ -1,25 +1,32 @@
 -- Blocks and the statements that have them.
-use Rattle.std.proofs.Common.{arith, ◌≡◌, ◌≢◌, ◌+◌, ◌-◌, ◌<◌, ◌≤◌, ℕ, zero, suc, inl, inr, Bool, false, List, [], ◌∷◌, Some, drop, sym, refl, ap, ◌∙◌, subst}
+use Rattle.std.proofs.Common.{arith, ◌≡◌, ◌≢◌, ◌+◌, ◌-◌, ◌<◌, ◌≤◌, ℕ, zero, suc, false, List, [], ◌∷◌, ◌++◌, Some, Result, drop, append-nil, sym, refl, ap, ◌∙◌, subst}
+use Rattle.std.proofs.lemmas.List.{append_cancel_right}
 use Rattle.redn_syntax.specs.declared.token.TokenKind.{TokenKind}
 use Rattle.redn_syntax.specs.declared.token.TokenKind.TheVariants as k
-use Rattle.redn_syntax.specs.declared.tree.Num.{Num}
-use Rattle.redn_syntax.specs.declared.tree.Operand.{Operand}
 use Rattle.redn_syntax.specs.declared.tree.Stmt.{Stmt}
 use Rattle.redn_syntax.specs.declared.tree.StmtKind.{StmtKind, out-StmtKind}
+use Rattle.redn_syntax.specs.declared.tree.StmtKind.TheVariants as s
 use Rattle.redn_syntax.specs.declared.tree.StmtKind.TheOpen.{StmtKind-F}
 use Rattle.redn_syntax.specs.Lexemes.{Lexeme, Fixed, Named, Numbered}
 use Rattle.redn_syntax.specs.Grammar as g
 use Rattle.redn_syntax.specs.Grammar.{Phrase, ◌>>◌, SamePlace}
 use Rattle.redn_parse.specs.Lookahead.{kind_at, next_place, IsFixed}
 use Rattle.redn_parse.specs.Depth.{OpensDeepFrom}
-use Rattle.redn_parse.specs.Reads.{HasNone, IsOnly, form, statement, otherwise, body, unless, test}
-use Rattle.redn_parse.proofs.Same.{Same, anything, Sees, weaken, ◌and◌, past, marks, values, tests, numbers, starts}
+use Rattle.redn_parse.specs.declared.reader.Stop.{Stop}
+use Rattle.redn_parse.specs.declared.reader.Stop.TheVariants.{Unexpected}
+use Rattle.redn_parse.specs.Reads.{HasNone, Begins, IsStuckWithin, IsBlocked, IsFault, IsOnly, IsSole, ReadsForm, ReadsWithin, plain_form, form, statement, statements, body, unless}
+use Rattle.redn_parse.proofs.Same.{Sees, marks, starts}
 use Rattle.redn_parse.proofs.Trees.{Layer, sort_of, sort_at, form_sort, form_starts, statement_starts, plain_forms, blocks, kind_same}
-use Rattle.redn_parse.proofs.Forms.{NoForm, no_form, no_loop, no_repeat, read_at}
-use Rattle.redn_parse.proofs.Passed.{behind}
+use Rattle.redn_parse.proofs.Forms.{NoForm, no_form}
+use Rattle.redn_parse.proofs.Passed.{Goes, start, alike_kind, first_goes, first_blames, last_flat}
 use Rattle.redn_parse.proofs.Braces as braces
-use Rattle.redn_parse.proofs.Braces.{◌then◌}
-use Rattle.redn_parse.proofs.Sole.{sole}
+use Rattle.redn_parse.proofs.Braces.{Keeps, ◌then◌}
+use Rattle.redn_parse.proofs.Samples as a
+use Rattle.redn_parse.proofs.Fronts as fronts
+use Rattle.redn_parse.proofs.Fronts.{Free, ◌plus◌}
+use Rattle.redn_parse.proofs.Plain.{a_break}
+use Rattle.redn_parse.proofs.Lists.{each_more}
+use Rattle.redn_parse.proofs.Sole.{sole, settled}
 
 -- ---- the next lexeme
 
@@ -68,13 +75,58 @@ block_deep b at ahead e =
     let whole = fixed_next k.OpenBrace b tt ahead in
     subst (λ l. OpensDeepFrom 65 l at) (sym whole) (subst (λ p. OpensDeepFrom 65 (Fixed k.OpenBrace (next_place b) ∷ drop 1 b) p) (sym e) (braces.opens_here (next_place b) (drop 1 b)))
 
-pub block_passes : (room : ℕ) (b m : List Lexeme) (at : ℕ) → 0 < room → room ≤ 64 → g.mark k.OpenBrace b m → OpensDeepFrom (65 - (room - 1)) m at → OpensDeepFrom (65 - room) b at
-block_passes room b m at some fits h o =
-    let more : 65 - (room - 1) ≡ 65 - room + 1 = omega arith in
-    (braces.opened (65 - room) (λ e. omega arith)).up b m h at (subst (λ n. OpensDeepFrom n m at) more o)
+pub opened : (room : ℕ) → 0 < room → room ≤ 64 → Keeps (65 - room) (65 - (room - 1)) (g.mark k.OpenBrace)
+opened room some fits =
+    let more : 65 - room + 1 ≡ 65 - (room - 1) = omega arith in
+    subst (λ n. Keeps (65 - room) n (g.mark k.OpenBrace)) more (braces.opened (65 - room) (λ e. omega arith))
 
-pub block_keeps : (room : ℕ) (xs : List Stmt) (b a : List Lexeme) (at : ℕ) → room ≤ 64 → g.block_within SamePlace room xs b a → OpensDeepFrom (65 - room) a at → OpensDeepFrom (65 - room) b at
-block_keeps room xs b a at fits h o = (braces.block (65 - room) room (omega arith) xs).up b a h at o
+pub block_kept : (room : ℕ) (xs : List Stmt) → room ≤ 64 → Keeps (65 - room) (65 - room) (g.block_within SamePlace room xs)
+block_kept room xs fits = braces.block (65 - room) room (omega arith) xs
+
+pub statements_kept : (room : ℕ) (xs : List Stmt) → room ≤ 64 → Keeps (65 - room) (65 - room) (g.each (statement room) xs)
+statements_kept room xs fits = braces.each (65 - room) (statement room) (braces.statement (65 - room) (g.block_within SamePlace room) (braces.block (65 - room) room (omega arith))) xs
+
+-- ---- where a block is wanted
+
+-- an empty one
+pub empty_block : (room : ℕ) (tail : List Lexeme) → g.block_within SamePlace (suc room) [] (a.mark k.OpenBrace ∷ a.mark k.CloseBrace ∷ tail) tail
+empty_block room tail = (_, (0, refl), (_, refl, (0, refl)))
+
+pub block_stuck : (room opened : ℕ) (b : List Lexeme) → (kind_at 0 b ≡ Some k.OpenBrace → ⊥) →
+    IsFault (IsStuckWithin (g.block_within SamePlace) (λ (p : ℕ × List Stmt). g.block_within SamePlace p.0 p.1 >> g.nothing) room opened b b) (IsBlocked (g.block_within SamePlace) room opened b) Unexpected
+block_stuck room opened b ahead = record {
+  none = λ e. record {
+    stuck = record {
+      front = [];
+      split = refl;
+      begun = ([], a.mark k.OpenBrace ∷ a.mark k.CloseBrace ∷ [], empty_block room);
+      rejects = λ other alike. record { rejects = λ p after d. rejects other (alike_kind b other alike) p.0 p.1 d.0 d.1 };
+    };
+    calm = λ at o. braces.opens_nowhere opened at o;
+  };
+  deep = λ at e. cc;
+}
+  where
+    rejects : (other : List Lexeme) → kind_at 0 other ≡ kind_at 0 b → (d : ℕ) (xs : List Stmt) (after : List Lexeme) → g.block_within SamePlace d xs other after → ⊥
+    rejects other e zero xs after h = h
+    rejects other e (suc d) xs after h = ahead (sym e ∙ ap (kind_at 0) h.1.1)
+
+-- 65 are open
+pub block_blocked : (b : List Lexeme) (at : ℕ) → kind_at 0 b ≡ Some k.OpenBrace → at ≡ next_place b → IsBlocked (g.block_within SamePlace) 0 65 b at
+block_blocked b at ahead e =
+    let whole = fixed_next k.OpenBrace b tt ahead in
+    record {
+      opens = block_deep b at ahead e;
+      front = [];
+      behind = drop 1 b;
+      split = whole ∙ ap (λ p. Fixed k.OpenBrace p ∷ drop 1 b) (sym e);
+      begun = ([], a.mark k.CloseBrace ∷ [], λ tail. (_, (at, refl), (_, refl, (0, refl))));
+    }
+
+pub block_goes : (room room' : ℕ) → room' ≡ room → Goes (g.mark k.OpenBrace) (statements room') (g.block_within SamePlace (suc room))
+block_goes room room' e = record {
+  goes = λ z. (z, a.mark k.CloseBrace ∷ [], λ b m tail h d. (m, h, (_, subst (λ n. statements n z m (a.mark k.CloseBrace ∷ tail)) e d, (0, refl))));
+}
 
 -- ---- the statements up to a closing brace
 
@@ -85,12 +137,15 @@ pub sole_each : (room : ℕ) (xs : List Stmt) (b a : List Lexeme) → g.each (so
 sole_each room [] b a h = h
 sole_each room (x ∷ xs) b a (m, h, hs) = (m, h.0, sole_each room xs m a hs)
 
+pub body_goes : (room : ℕ) (xs : List Stmt) → Goes (g.each (statement room) xs) (statement (suc room)) (statements (suc room))
+body_goes room xs = record { goes = λ z. (xs ++ z ∷ [], [], λ b m tail h d. each_more (statement (suc room)) xs z b m tail (fronts.body_more room xs b m h) d) }
+
 -- behind a statement of a body comes no `else`
 after_no_else : (d : ℕ) (xs : List Stmt) (b n : List Lexeme) → g.each (statement d) xs b n → kind_at 0 n ≡ Some k.CloseBrace → kind_at 0 b ≢ Some k.Else
 after_no_else d [] b n h close = λ e. let same = ap (kind_at 0) h in cc
 after_no_else d (x ∷ xs) b n (m, h, hs) close = starts_kind k.Else b ((statement_starts (g.block_within SamePlace d) x).sees b m h) refl
 
-body_rejected : (room d : ℕ) (xs ys : List Stmt) (b m n : List Lexeme) → g.each (sole room) xs b m → g.each (statement d) ys b n → kind_at 0 n ≡ Some k.CloseBrace → (kind_at 0 m ≡ Some k.CloseBrace → ⊥) → NoStatement m → ⊥
+body_rejected : (room d : ℕ) (xs ys : List Stmt) (b m n : List Lexeme) → g.each (settled room) xs b m → g.each (statement d) ys b n → kind_at 0 n ≡ Some k.CloseBrace → (kind_at 0 m ≡ Some k.CloseBrace → ⊥) → NoStatement m → ⊥
 body_rejected room d [] [] b m n h h' close here none = here (ap (kind_at 0) (sym h ∙ h') ∙ close)
 body_rejected room d [] (y ∷ ys) b m n h (l, h', hs') close here none =
     none.rejects (d, y) l (l, subst (λ z. statement d y z l) h h', (refl, after_no_else d ys l n hs' close))
@@ -100,14 +155,10 @@ body_rejected room d (x ∷ xs) (y ∷ ys) b m n (l, h, hs) (l', h', hs') close 
     let same = (h.1 d y l' (l', h', (refl, after_no_else d ys l' n hs' close))).1 in
     body_rejected room d xs ys l m n hs (subst (λ z. g.each (statement d) ys z n) same hs') close here none
 
-pub body_failed : (room : ℕ) (xs : List Stmt) (b m : List Lexeme) → g.each (sole room) xs b m → (kind_at 0 m ≡ Some k.CloseBrace → ⊥) → NoStatement m → NoBody b
+pub body_failed : (room : ℕ) (xs : List Stmt) (b m : List Lexeme) → g.each (settled room) xs b m → (kind_at 0 m ≡ Some k.CloseBrace → ⊥) → NoStatement m → NoBody b
 body_failed room xs b m h here none = record {
   rejects = λ p after d. body_rejected room p.0 xs p.1 b m d.1.0 h d.1.1 d.1.2.1 here none;
 }
-
-pub body_passes : (room : ℕ) (xs : List Stmt) (b m : List Lexeme) (at : ℕ) → room ≤ 64 → g.each (sole room) xs b m → OpensDeepFrom (65 - room) m at → OpensDeepFrom (65 - room) b at
-body_passes room xs b m at fits h o =
-    (braces.each (65 - room) (statement room) (braces.statement (65 - room) (g.block_within SamePlace room) (braces.block (65 - room) room (omega arith))) xs).up b m (sole_each room xs b m h) at o
 
 -- ---- a statement
 
@@ -128,12 +179,63 @@ statement_failed b none = record {
   rejects = λ p after d. none.rejects (p.0, p.1.kind) after (d.0, subst (λ l. form p.0 p.1.kind l d.0) (sym d.1.1.4) d.1.2, d.2);
 }
 
+-- its place is that of its first lexeme
+begins_there : (d : ℕ) (front : List Lexeme) → Begins (form d) front → Begins (statement d) front
+begins_there d front (kind, more, f) =
+    (record { at = next_place (front ++ (more ++ [])); kind = kind }, more, λ tail. statement_read d (next_place (front ++ (more ++ []))) kind (front ++ (more ++ tail)) tail (place front more (nonempty (front ++ (more ++ [])) (form_starts (g.block_within SamePlace d) (out-StmtKind kind) (front ++ (more ++ [])) [] (f []))) tail) (f tail))
+  where
+    place : (front more : List Lexeme) → (x : Lexeme) × (rest : List Lexeme) × (front ++ (more ++ []) ≡ x ∷ rest) → (tail : List Lexeme) → next_place (front ++ (more ++ [])) ≡ next_place (front ++ (more ++ tail))
+    place (y ∷ front) more e tail = refl
+    place [] (y ∷ more) e tail = refl
+    place [] [] (x, rest, e) tail = cc
+
+pub statement_fault : (room opened : ℕ) (b after : List Lexeme) (stop : Stop) →
+    IsFault (IsStuckWithin form (λ (p : ℕ × StmtKind). form p.0 p.1 >> unless k.Else) room opened b after) (IsBlocked form room opened b) stop →
+    IsFault (IsStuckWithin statement (λ (p : ℕ × Stmt). statement p.0 p.1 >> unless k.Else) room opened b after) (IsBlocked statement room opened b) stop
+statement_fault room opened b after stop fault = record {
+  none = λ e. let f = fault.none e in record {
+    stuck = record {
+      front = f.stuck.front;
+      split = f.stuck.split;
+      begun = begins_there (suc room) f.stuck.front f.stuck.begun;
+      rejects = λ other alike. statement_failed (f.stuck.front ++ other) (f.stuck.rejects other alike);
+    };
+    calm = f.calm;
+  };
+  deep = λ at e. let f = fault.deep at e in record {
+    opens = f.opens;
+    front = f.front;
+    behind = f.behind;
+    split = f.split;
+    begun = begins_there (suc room) (f.front ++ Fixed k.OpenBrace at ∷ []) f.begun;
+  };
+}
+
+-- a statement has a lexeme
+form_somewhere : (room : ℕ) (kind : StmtKind) (b after : List Lexeme) → form room kind b after → b ≡ after → ⊥
+form_somewhere room kind b after h e =
+    let f = (fronts.form (g.block_within SamePlace room) (fronts.block room) (out-StmtKind kind)).fronts b after h in
+    let none : f.front ≡ [] = append_cancel_right f.front [] after (sym f.split ∙ e) in
+    let sees = form_starts (g.block_within SamePlace room) (out-StmtKind kind) [] [] (subst (λ l. form room kind l []) (append-nil f.front ∙ none) (f.always [])) in
+    cc
+
 pub statement_only : (at : ℕ) (kind : StmtKind) (b a : List Lexeme) → at ≡ next_place b → IsOnly form (unless k.Else) b a kind → IsOnly statement (unless k.Else) b a (record { at = at; kind = kind })
 statement_only at kind b a place only depth y other d =
     let begins = d.1.1 in
     let same = only depth y.kind other (d.0, subst (λ l. form depth y.kind l d.0) (sym begins.4) d.1.2, d.2) in
     let first : y.at ≡ at = begins.3 ∙ ap next_place (sym begins.2) ∙ sym place in
     ((λ i. record { at = first i; kind = same.0 i }), same.1)
+
+pub statement_sole : (room at : ℕ) (kind : StmtKind) (b after : List Lexeme) → at ≡ next_place b → form room kind b after → IsSole form (unless k.Else) b after kind → IsSole statement (unless k.Else) b after (record { at = at; kind = kind })
+statement_sole room at kind b after place h only = record {
+  front = only.front;
+  split = only.split;
+  only = λ rest e. statement_only at kind (only.front ++ rest) rest (there only.front only.split rest) (only.only rest e);
+}
+  where
+    there : (front : List Lexeme) → b ≡ front ++ after → (rest : List Lexeme) → at ≡ next_place (front ++ rest)
+    there [] e rest = absurd (form_somewhere room kind b after h e)
+    there (x ∷ front) e rest = place ∙ ap next_place e
 
 -- ---- kinds of statement
 
@@ -152,164 +254,30 @@ plain_only room kind b a ahead h depth y other d =
     (other_sort (g.block_within SamePlace room) (out-StmtKind kind) b a h ahead)).joins b b a d.0 refl h d.1 refl refl in
     (sym (kind_same kind y same.0), sym d.2.0 ∙ sym same.1)
 
--- ---- `else`
-
-abbrev pub NoOtherwise : List Lexeme → Type 0
-NoOtherwise b = HasNone (λ (p : ℕ × List Stmt). otherwise p.0 p.1 >> unless k.Else) b
-
-pub left_out_only : (b : List Lexeme) → (kind_at 0 b ≡ Some k.Else → ⊥) → IsOnly otherwise (unless k.Else) b b []
-left_out_only b ahead depth y other d = cases y d.0 d.1 d.2
-  where
-    cases : (y : List Stmt) (m : List Lexeme) → otherwise depth y b m → unless k.Else m other → (y ≡ []) × (other ≡ b)
-    cases [] m (inl e) u = (refl, sym u.0 ∙ sym e)
-    cases [] m (inr h) u = absurd (ahead (ap (kind_at 0) h.1.1))
-    cases (y ∷ ys) m h u = absurd (ahead (ap (kind_at 0) h.1.1))
-
-pub else_read : (room : ℕ) (xs : List Stmt) (b m a : List Lexeme) → g.mark k.Else b m → g.block_within SamePlace room xs m a → otherwise room xs b a
-else_read room [] b m a h d = inr (m, h, d)
-else_read room (x ∷ xs) b m a h d = (m, h, d)
-
--- what stands behind an `else` that isn't left out
-behind_else : (depth : ℕ) (y : List Stmt) (b m other o : List Lexeme) → g.mark k.Else b m → otherwise depth y b o → unless k.Else o other → g.block_within SamePlace depth y m o
-behind_else depth [] b m other o h (inl e) u = absurd (u.1 (sym (ap (kind_at 0) e) ∙ ap (kind_at 0) h.1))
-behind_else depth [] b m other o h (inr d) u = subst (λ l. g.block_within SamePlace depth [] l o) (sym ((marks k.Else).joins b b m d.0 refl h d.1 refl refl).1) d.2
-behind_else depth (y ∷ ys) b m other o h d u = subst (λ l. g.block_within SamePlace depth (y ∷ ys) l o) (sym ((marks k.Else).joins b b m d.0 refl h d.1 refl refl).1) d.2
-
-pub else_only : (room : ℕ) (xs : List Stmt) (b m a : List Lexeme) → g.mark k.Else b m → g.block_within SamePlace room xs m a → IsOnly otherwise (unless k.Else) b a xs
-else_only room xs b m a h d depth y other e =
-    let same = (blocks room depth xs y).joins m m a e.0 refl d (behind_else depth y b m other e.0 h e.1 e.2) refl refl in
-    (sym same.0, sym e.2.0 ∙ sym same.1)
-
-pub else_failed : (b m : List Lexeme) → g.mark k.Else b m → NoBlock m → NoOtherwise b
-else_failed b m h none = record {
-  rejects = λ p after e. none.rejects p e.0 (e.0, behind_else p.0 p.1 b m after e.0 h e.1 e.2, refl);
-}
-
-pub else_passes : (n : ℕ) (b m : List Lexeme) (at : ℕ) → g.mark k.Else b m → OpensDeepFrom n m at → OpensDeepFrom n b at
-else_passes n b m at h o = (braces.marked n k.Else (λ p. (refl, refl))).up b m h at o
-
--- ---- `if`
-
--- up to the blocks
-abbrev pub if_test : Bool → Operand → Operand → Phrase
-if_test wide left right = g.mark k.If >> (g.value SamePlace left >> (g.mark (g.test_mark wide) >> g.value SamePlace right))
-
-pub if_tests : (v w : Bool) (l l' r r' : Operand) → Same anything (if_test v l r) (if_test w l' r') ((v ≡ w) × (l ≡ l') × (r ≡ r'))
-if_tests v w l l' r r' = weaken (past k.If (values l l' and (tests v w and values r r'))) (λ e. (e.1.0, e.0, e.1.1))
-
--- a test behind its `if`
-pub tested : (wide : Bool) (left right : Operand) (b m n : List Lexeme) → g.mark k.If b m → test (left, wide, right) m n → if_test wide left right b n
-tested wide left right b m n h d = (m, h, d)
-
--- the parts of an `if`
-pub record IfParts (d : ℕ) (layer : Layer) (b o : List Lexeme) : Type 0 where
-  pub wide : Bool
-  pub left : Operand
-  pub right : Operand
-  pub yes_body : List Stmt
-  pub no_body : List Stmt
-  pub behind_test : List Lexeme
-  pub behind_block : List Lexeme
-  pub is : layer ≡ StmtKind-F.If wide left right yes_body no_body
-  pub tests : if_test wide left right b behind_test
-  pub block : g.block_within SamePlace d yes_body behind_test behind_block
-  pub rest : otherwise d no_body behind_block o
-
-pub if_parts : (d : ℕ) (layer : Layer) (b o : List Lexeme) → kind_at 0 b ≡ Some k.If → read_at d layer b o → IfParts d layer b o
-unfolding g.form
-if_parts d (StmtKind-F.If wide left right yes_body no_body) b o ahead (m0, h0, (m1, h1, (m2, h2, (m3, h3, (n, block, rest))))) = record {
-  wide = wide;
-  left = left;
-  right = right;
-  yes_body = yes_body;
-  no_body = no_body;
-  behind_test = m3;
-  behind_block = n;
-  is = refl;
-  tests = (m0, h0, (m1, h1, (m2, h2, h3)));
-  block = block;
-  rest = rest;
-}
-if_parts d layer b o ahead h =
-    let found : sort_at b ≡ sort_of layer = form_sort (g.block_within SamePlace d) layer b o h in
-    let five : sort_at b ≡ 5 = rw ahead refl in
-    absurd (omega arith)
-
-pub if_read : (room : ℕ) (wide : Bool) (left right : Operand) (yes_body no_body : List Stmt) (b m n a : List Lexeme) → if_test wide left right b m → g.block_within SamePlace room yes_body m n → otherwise room no_body n a → read_at room (StmtKind-F.If wide left right yes_body no_body) b a
-unfolding g.form
-if_read room wide left right yes_body no_body b m n a (m0, h0, (m1, h1, (m2, h2, h3))) block rest = (m0, h0, (m1, h1, (m2, h2, (m, h3, (n, block, rest)))))
-
-module _ (b m : List Lexeme) (ahead : kind_at 0 b ≡ Some k.If) (wide : Bool) (left right : Operand) (tested : if_test wide left right b m) where
-  same_test : (d : ℕ) (layer : Layer) (o : List Lexeme) (p : IfParts d layer b o) → ((wide ≡ p.wide) × (left ≡ p.left) × (right ≡ p.right)) × (m ≡ p.behind_test)
-  same_test d layer o p = (if_tests wide p.wide left p.left right p.right).joins b b m p.behind_test refl tested p.tests refl refl
-
-  -- its first block isn't read
-  pub yes_failed : NoBlock m → NoFormUnless b
-  yes_failed none = record {
-    rejects = λ q after e.
-        let p = if_parts q.0 (out-StmtKind q.1) b e.0 ahead e.1 in
-        let same = same_test q.0 (out-StmtKind q.1) e.0 p in
-        none.rejects (q.0, p.yes_body) p.behind_block (p.behind_block, subst (λ l. g.block_within SamePlace q.0 p.yes_body l p.behind_block) (sym same.1) p.block, refl);
-  }
-
-  module _ (room : ℕ) (yes_body : List Stmt) (n : List Lexeme) (block : g.block_within SamePlace room yes_body m n) where
-    same_block : (d : ℕ) (layer : Layer) (o : List Lexeme) (p : IfParts d layer b o) → (yes_body ≡ p.yes_body) × (n ≡ p.behind_block)
-    same_block d layer o p = (blocks room d yes_body p.yes_body).joins m p.behind_test n p.behind_block (same_test d layer o p).1 block p.block refl refl
-
-    -- its `else` isn't read
-    pub no_failed : NoOtherwise n → NoFormUnless b
-    no_failed none = record {
-      rejects = λ q after e.
-          let p = if_parts q.0 (out-StmtKind q.1) b e.0 ahead e.1 in
-          let same = (same_block q.0 (out-StmtKind q.1) e.0 p).1 in
-          none.rejects (q.0, p.no_body) after (e.0, subst (λ l. otherwise q.0 p.no_body l e.0) (sym same) p.rest, e.2);
+pub plain_sole : (room : ℕ) (kind : StmtKind) (b a : List Lexeme) → (kind_at 0 b ≡ Some k.If → ⊥) → form room kind b a → IsSole form (unless k.Else) b a kind
+plain_sole room kind b a ahead h =
+    let block = g.block_within SamePlace room in
+    let layer = out-StmtKind kind in
+    let f = (fronts.form block (fronts.block room) layer).fronts b a h in
+    record {
+      front = f.front;
+      split = f.split;
+      only = λ rest e. plain_only room kind (f.front ++ rest) rest
+          (λ first. let five : sort_at (f.front ++ rest) ≡ 5 = rw first refl in other_sort block layer b a h ahead (sym (form_sort block layer (f.front ++ rest) rest (f.always rest)) ∙ five)) (f.always rest);
     }
 
-    pub if_only : (kind : StmtKind) (no_body : List Stmt) (a : List Lexeme) → out-StmtKind kind ≡ StmtKind-F.If wide left right yes_body no_body → IsOnly otherwise (unless k.Else) n a no_body → IsOnly form (unless k.Else) b a kind
-    if_only kind no_body a is only depth y other e =
-        let p = if_parts depth (out-StmtKind y) b e.0 ahead e.1 in
-        let test = (same_test depth (out-StmtKind y) e.0 p).0 in
-        let both = same_block depth (out-StmtKind y) e.0 p in
-        let rest = only depth p.no_body other (e.0, subst (λ l. otherwise depth p.no_body l e.0) (sym both.1) p.rest, e.2) in
-        let layer : StmtKind-F.If p.wide p.left p.right p.yes_body p.no_body ≡ StmtKind-F.If wide left right yes_body no_body =
-        λ i. StmtKind-F.If (sym test.0 i) (sym test.1 i) (sym test.2 i) (sym both.0 i) (rest.0 i) in
-        (kind_same y kind (p.is ∙ layer ∙ sym is), rest.1)
+-- one without a block, read as any
+plain_kept : (n : ℕ) → n ≤ 65 → (kind : StmtKind) → Keeps n n (plain_form kind)
+plain_kept n fits kind =
+    let keep = braces.form n (g.block_within SamePlace 0) (braces.block n 0 (omega arith)) (out-StmtKind kind) in
+    record { up = λ b a h. keep.up b a (h 0); down = λ b a h. keep.down b a (h 0) }
 
--- its test isn't read
-pub test_failed : (b m : List Lexeme) → kind_at 0 b ≡ Some k.If → g.mark k.If b m → HasNone test m → NoFormUnless b
-test_failed b m ahead h none = record {
-  rejects = λ q after e.
-      let p = if_parts q.0 (out-StmtKind q.1) b e.0 ahead e.1 in
-      (behind (marks k.If) h p.tests.1 none).rejects (p.left, p.wide, p.right) p.behind_test p.tests.2;
-}
-
-pub if_passes : (n : ℕ) (wide : Bool) (left right : Operand) (b m : List Lexeme) (at : ℕ) → if_test wide left right b m → OpensDeepFrom n m at → OpensDeepFrom n b at
-if_passes n wide left right b m at h o =
-    (braces.marked n k.If (λ p. (refl, refl)) then (braces.valued n left then (braces.test n wide then braces.valued n right))).up b m h at o
-
--- ---- `loop` and `repeat`
-
-pub loop_failed : (b m : List Lexeme) → kind_at 0 b ≡ Some k.Loop → g.mark k.Loop b m → NoBlock m → NoFormUnless b
-unfolding g.form
-loop_failed b m ahead h none =
-    unless_form b (no_loop b ahead (λ d xs after e. (behind (marks k.Loop) h e.1 none).rejects (d, xs) after (after, e.2, refl)))
-
-pub loop_passes : (n : ℕ) (b m : List Lexeme) (at : ℕ) → g.mark k.Loop b m → OpensDeepFrom n m at → OpensDeepFrom n b at
-loop_passes n b m at h o = (braces.marked n k.Loop (λ p. (refl, refl))).up b m h at o
-
-pub count_failed : (b m : List Lexeme) → kind_at 0 b ≡ Some k.Repeat → g.mark k.Repeat b m → HasNone (g.number SamePlace) m → NoFormUnless b
-unfolding g.form
-count_failed b m ahead h none =
-    unless_form b (no_repeat b ahead (λ d count xs after e. (behind (marks k.Repeat) h e.1 none).rejects count e.2.0 e.2.1))
-
-pub repeat_failed : (count : Num) (b m n : List Lexeme) → kind_at 0 b ≡ Some k.Repeat → g.mark k.Repeat b m → g.number SamePlace count m n → NoBlock n → NoFormUnless b
-unfolding g.form
-repeat_failed count b m n ahead h h' none =
-    unless_form b (no_repeat b ahead (λ d count' xs after e.
-    (behind (past k.Repeat (numbers count count')) (m, h, h') (e.0, e.1, e.2.1) none).rejects (d, xs) after (after, e.2.2, refl)))
-
-pub repeat_passes : (n : ℕ) (count : Num) (b m l : List Lexeme) (at : ℕ) → g.mark k.Repeat b m → g.number SamePlace count m l → OpensDeepFrom n l at → OpensDeepFrom n b at
-repeat_passes n count b m l at h h' o = (braces.marked n k.Repeat (λ p. (refl, refl))).up b m h at ((braces.numbered n count).up m l h' at o)
+pub plain_reads : (room : ℕ) (b a : List Lexeme) (r : Result StmtKind Stop) → room ≤ 64 → ReadsForm b a r → ReadsWithin form (unless k.Else) room (65 - room) b a r
+plain_reads room b a r fits h =
+    last_flat form a room (65 - room) r (λ kind. form room kind b a) (λ kind. plain_form kind b a) h (λ x d. d room) start
+    (first_goes (λ z. (z, [], λ b tail d. d (suc room))))
+    (first_blames (λ b near none. unless_form b none))
+    (braces.nothing (65 - room)) (plain_kept (65 - room) (omega arith))
 
 -- ---- none at all
 
@@ -326,3 +294,18 @@ no_first kind a b c d e f i j = refl
 
 pub no_start : (b : List Lexeme) → starts (kind_at 0 b) ≡ false → NoFormUnless b
 no_start b h = unless_form b (no_form b (λ d layer after e. let sees = form_starts (g.block_within SamePlace d) layer b after e in cc))
+
+pub kind_stuck : (room opened : ℕ) (b : List Lexeme) → starts (kind_at 0 b) ≡ false →
+    IsFault (IsStuckWithin form (λ (p : ℕ × StmtKind). form p.0 p.1 >> unless k.Else) room opened b b) (IsBlocked form room opened b) Unexpected
+kind_stuck room opened b h = record {
+  none = λ e. record {
+    stuck = record {
+      front = [];
+      split = refl;
+      begun = (s.Break, a.mark k.Break ∷ a.mark k.Semicolon ∷ [], λ tail. a_break (a.mark k.Break ∷ a.mark k.Semicolon ∷ tail) tail (_, (0, refl), (0, refl)) (suc room));
+      rejects = λ other alike. no_start other (ap starts (alike_kind b other alike) ∙ h);
+    };
+    calm = λ at o. braces.opens_nowhere opened at o;
+  };
+  deep = λ at e. cc;
+}

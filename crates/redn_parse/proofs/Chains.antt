@@ -11,14 +11,18 @@ use Rattle.redn_syntax.specs.Lexemes.{Lexeme}
 use Rattle.redn_syntax.specs.Grammar as g
 use Rattle.redn_syntax.specs.Grammar.{Phrase, ◌>>◌, SamePlace}
 use Rattle.redn_parse.specs.Lookahead.{kind_at}
-use Rattle.redn_parse.specs.Depth.{OpensDeepFrom}
 use Rattle.redn_parse.specs.Reads.{HasNone, with_mark, all_before, statement, body}
 use Rattle.redn_parse.specs.Reads as reads
 use Rattle.redn_parse.proofs.Same.{Ahead, Same, anything, Sees, ◌and◌, past, marks, names, no_argument, no_variable, no_table}
 use Rattle.redn_parse.proofs.Trees.{chains, argument_lists, variable_lists, table_lists, no_argument_begins, no_variable_begins, some_begins}
 use Rattle.redn_parse.proofs.Blocks.{NoBody}
 use Rattle.redn_parse.proofs.Braces as braces
-use Rattle.redn_parse.proofs.Braces.{◌then◌}
+use Rattle.redn_parse.proofs.Braces.{Keeps, ◌then◌}
+use Rattle.redn_parse.proofs.Samples as a
+use Rattle.redn_parse.proofs.Fronts as fronts
+use Rattle.redn_parse.proofs.Fronts.{Free, ◌plus◌}
+use Rattle.redn_parse.proofs.Passed.{Goes, first_goes}
+use Rattle.redn_parse.proofs.Lists.{each_more}
 
 -- ---- what comes next
 
@@ -123,13 +127,20 @@ module _ (name : Name) (b m : List Lexeme) (named : head name b m) where
             none.rejects (q.0, q.1.body) p.behind_body (p.behind_body, (p.behind_body, statements, (refl, ap (kind_at 0) p.close.2)), refl);
       }
 
-      pub chain_passes : (at : ℕ) → OpensDeepFrom 1 o at → OpensDeepFrom 0 b at
-      chain_passes at x =
-          let read = subst (λ l. g.each (g.argument SamePlace) xs m l) args.2.0 args.1 in
-          let read' = subst (λ l. g.each (g.variable SamePlace) ys n l) vars.2.0 vars.1 in
-          let before_vars = (braces.each 1 (g.variable SamePlace) (braces.variable 1) ys).up n o read' at x in
-          let before_args = (braces.each 1 (g.argument SamePlace) (braces.argument 1) xs).up m n read at before_vars in
-          (braces.marked 0 k.Chain (λ p. (refl, refl)) then (braces.named 0 name then braces.opened 0 (λ e. omega arith))).up b m named at before_args
+pub head_front : (name : Name) → Free (head name)
+head_front name = fronts.marked k.Chain plus (fronts.named name plus fronts.marked k.OpenBrace)
+
+pub head_kept : (name : Name) → Keeps 0 1 (head name)
+head_kept name = braces.marked 0 k.Chain (λ p. (refl, refl)) then (braces.named 0 name then braces.opened 0 (λ e. omega arith))
+
+pub args_kept : (args : List Name) → Keeps 1 1 (g.each (g.argument SamePlace) args)
+args_kept = braces.each 1 (g.argument SamePlace) (braces.argument 1)
+
+pub vars_kept : (vars : List VarDecl) → Keeps 1 1 (g.each (g.variable SamePlace) vars)
+vars_kept = braces.each 1 (g.variable SamePlace) (braces.variable 1)
+
+pub empty_chain : (depth : ℕ) (tail : List Lexeme) → g.chain_within SamePlace depth a.a_chain (a.mark k.Chain ∷ a.name ∷ a.mark k.OpenBrace ∷ a.mark k.CloseBrace ∷ tail) tail
+empty_chain depth tail = (_, (0, refl), (_, (0, refl, refl), (_, (0, refl), (_, refl, (_, refl, (_, refl, (0, refl, refl)))))))
 
 -- ---- all chains
 
@@ -157,12 +168,19 @@ chains_failed xs b m h more none = record { rejects = λ p after e. cases more p
     cases (inr more) d [] r h' none_left = h'
     cases (inr more) d (y ∷ ys) r (l, h', hs') none_left = chains_blocked d xs (y ∷ ys) b m r h (l, h', hs') none_left more none
 
-pub chains_pass : (xs : List Chain) (b m : List Lexeme) (at : ℕ) → g.each (g.chain_within SamePlace 64) xs b m → OpensDeepFrom 0 m at → OpensDeepFrom 0 b at
-chains_pass xs b m at h o = (braces.chains xs).up b m h at o
+pub some_read : (depth : ℕ) (xs : List Chain) (x : Chain) (b a : List Lexeme) → g.each (g.chain_within SamePlace depth) (xs ++ x ∷ []) b a → g.some (g.chain_within SamePlace depth) (xs ++ x ∷ []) b a
+some_read depth [] x b a h = h
+some_read depth (y ∷ xs) x b a h = h
 
-pub some_read : (xs : List Chain) (x : Chain) (b a : List Lexeme) → g.each (g.chain_within SamePlace 64) (xs ++ x ∷ []) b a → g.some (g.chain_within SamePlace 64) (xs ++ x ∷ []) b a
-some_read [] x b a h = h
-some_read (y ∷ xs) x b a h = h
+pub chains_goes : (xs : List Chain) → Goes (g.each (g.chain_within SamePlace 64) xs) (g.chain_within SamePlace 65) (reads.some_chains 65)
+chains_goes xs = record { goes = λ z. (xs ++ z ∷ [], [], λ b m tail h d. some_read 65 xs z b tail (each_more (g.chain_within SamePlace 65) xs z b m tail (fronts.chains_more 64 xs b m h) d)) }
+
+-- more comes where the kind of the next lexeme is that of one
+pub more_near : {xs : List Chain} (m other : List Lexeme) → kind_at 0 other ≡ kind_at 0 m → (xs ≡ []) ⊎ (0 < length m) → (xs ≡ []) ⊎ (0 < length other)
+more_near m other e (inl none) = inl none
+more_near [] other e (inr more) = absurd (omega arith)
+more_near (x ∷ m) [] e (inr more) = cc
+more_near (x ∷ m) (y ∷ other) e (inr more) = inr (omega arith)
 
 pub empty_list : (a : List Lexeme) → length a ≡ 0 → a ≡ []
 empty_list [] h = refl
@@ -193,5 +211,5 @@ module _ (ts : List Table) (b m : List Lexeme) (tables : all_before (g.table Sam
         none.rejects (p.0, p.1.chains) after (e.0, (e.1.0, subst (λ l. g.some (g.chain_within SamePlace p.0) p.1.chains l e.1.0) (sym same) f.2, e.1.2), e.2);
   }
 
-  pub file_passes : (at : ℕ) → OpensDeepFrom 0 m at → OpensDeepFrom 0 b at
-  file_passes at o = (braces.tables ts).up b m read_tables at o
+pub file_goes : Goes g.nothing (g.each (g.table SamePlace)) (g.file_within SamePlace 65)
+file_goes = first_goes (λ z. (record { tables = z; chains = a.a_chain ∷ [] }, a.mark k.Chain ∷ a.name ∷ a.mark k.OpenBrace ∷ a.mark k.CloseBrace ∷ [], λ b tail d. (_, d, (_, empty_chain 65 tail, refl))))

@@ -123,7 +123,7 @@ no_assignment b first second second' f f' = no_form b cases
     cases d (StmtKind-F.Walk to t offset key bound) after (m, (p, e), _) = let kind = ap (kind_at 0) e in cc
     cases d (StmtKind-F.Reply words) after (m, (p, e), _) = let kind = ap (kind_at 0) e in cc
 
-slot_ahead : (t : Name) (offset : Operand) (b r : List Lexeme) → g.slot SamePlace t offset b r → IsSlot b
+pub slot_ahead : (t : Name) (offset : Operand) (b r : List Lexeme) → g.slot SamePlace t offset b r → IsSlot b
 slot_ahead t offset b r (m, (p, _, e), (n, (q, e'), _)) =
     let same : b ≡ Named t.text p ∷ Fixed k.OpenBracket q ∷ n = cc (e, e') in
     (ap (kind_at 0) same, ap (kind_at 1) same)
@@ -151,3 +151,9 @@ module _ (b m : List Lexeme) (first : kind_at 0 b ≡ Some k.Name) (second : kin
   no_move ahead none = no_assignment b first second second'
       (λ to' from after d. let same = behind_equals to' d.2.0 (d.0, d.1, d.2.1) in none.rejects from after (subst (λ l. with_mark (g.value SamePlace) k.Semicolon from l after) (sym same) d.2.2))
       (λ to' t offset after d. let same = behind_equals to' d.2.0 (d.0, d.1, d.2.1) in ahead (subst IsSlot (sym same) (slot_ahead t offset d.2.0 d.2.2.0 d.2.2.1)))
+
+  -- neither is there
+  pub no_read : ((from : Operand) (after : List Lexeme) → with_mark (g.value SamePlace) k.Semicolon from m after → ⊥) → ((t : Name) (offset : Operand) (after : List Lexeme) → with_mark slot k.Semicolon (t, offset) m after → ⊥) → NoForm b
+  no_read f f' = no_assignment b first second second'
+      (λ to' from after d. let same = behind_equals to' d.2.0 (d.0, d.1, d.2.1) in f from after (subst (λ l. with_mark (g.value SamePlace) k.Semicolon from l after) (sym same) d.2.2))
+      (λ to' t offset after d. let same = behind_equals to' d.2.0 (d.0, d.1, d.2.1) in f' t offset after (subst (λ l. with_mark slot k.Semicolon (t, offset) l after) (sym same) d.2.2))

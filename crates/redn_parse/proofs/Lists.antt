@@ -1,5 +1,5 @@
 -- Lists that are read one after the other.
-use Rattle.std.proofs.Common.{◌≡◌, ◌≢◌, Bool, true, false, List, [], ◌∷◌, ◌++◌, Option, Some, None, if◌then◌else◌, sym, refl, ap, ◌∙◌, subst}
+use Rattle.std.proofs.Common.{◌≡◌, ◌≢◌, inl, inr, Bool, true, false, List, [], ◌∷◌, ◌++◌, take, Option, Some, None, if◌then◌else◌, sym, refl, ap, ◌∙◌, subst}
 use Rattle.redn_syntax.specs.declared.token.TokenKind.{TokenKind}
 use Rattle.redn_syntax.specs.declared.token.TokenKind.TheVariants as k
 use Rattle.redn_syntax.specs.declared.tree.Num.{Num}
@@ -10,6 +10,10 @@ use Rattle.redn_syntax.specs.Grammar as g
 use Rattle.redn_syntax.specs.Grammar.{Phrase, ◌>>◌, SamePlace}
 use Rattle.redn_parse.specs.Lookahead.{kind_at}
 use Rattle.redn_parse.specs.Reads.{HasNone, with_mark, word_and_more, item_and_more, more_or, all_before}
+use Rattle.redn_parse.proofs.Samples as a
+use Rattle.redn_parse.proofs.Passed.{Goes, Near, Read, read, first_goes}
+use Rattle.redn_parse.proofs.Fronts as fronts
+use Rattle.redn_parse.proofs.Fronts.{Free}
 use Rattle.redn_parse.proofs.Same.{Same, anything, Begins, weaken, ◌and◌, before, marks, numbers, values, items, no_colon, begins_last}
 
 -- one more
@@ -33,6 +37,21 @@ module _ {X : Type 0} (P : X → Phrase) (kind : TokenKind) (one : (x y : X) →
   all_blocked xs b m h here none = record {
     rejects = λ ys after d. rejected xs ys b m d.0 h d.1 here d.2.1 none;
   }
+
+-- one more behind some
+pub all_goes : {X : Type 0} (P : X → Phrase) (xs : List X) → Goes (g.each P xs) P (g.each P)
+all_goes P xs = record { goes = λ z. (xs ++ z ∷ [], [], λ b m tail h d. each_more P xs z b m tail h d) }
+
+-- all of them, where none can follow
+pub all_read : {X : Type 0} (P : X → Phrase) (kind : TokenKind) → ((x : X) → Free (P x)) → (xs : List X) (b m : List Lexeme) → all_before P kind xs b m → Read (g.each P xs) (all_before P kind xs) b m
+all_read P kind free xs b m h =
+    let r = read (fronts.each P free xs) (subst (λ l. g.each P xs b l) h.2.0 h.1) in
+    record {
+      front = r.front;
+      split = r.split;
+      always = r.always;
+      near = λ other e. (other, r.always other, (refl, λ ahead. h.2.1 (ap (kind_at 0) h.2.0 ∙ sym e ∙ ahead)));
+    }
 
 -- ---- with commas
 
@@ -83,6 +102,20 @@ module _ {X : Type 0} (P : X → Phrase) (kind : TokenKind) (one : (x y : X) (mo
       rejects (y ∷ ys) after d =
           let e = listed_ended P y ys b d.1.0 d.0 d.1.1 d.1.2 in
           stuck xs e.0 e.1 b m e.2 d.0 after h e.4 e.5 d.2 none
+
+-- behind a comma comes one more, of this one lexeme
+pub listed_goes : {X : Type 0} (P : X → Phrase) (kind : TokenKind) (sample : X) (x : Lexeme) → ((tail : List Lexeme) → P sample (x ∷ tail) tail) → (xs : List X) →
+    Goes (commas P xs) (λ (p : X × Bool). P p.0 >> more_or kind p.1) (with_mark (g.listed P) kind)
+listed_goes {X} P kind sample x reads xs = record { goes = λ z. cases z.0 z.1 }
+  where
+    cases : (z : X) (more : Bool) → (ys : List X) × (rest : List Lexeme) × ((b m tail : List Lexeme) → commas P xs b m → (P z >> more_or kind more) m (rest ++ tail) → with_mark (g.listed P) kind ys b tail)
+    cases z true = (
+      (xs ++ z ∷ []) ++ sample ∷ [],
+      x ∷ Fixed kind 0 ∷ [],
+      λ b m tail h d.
+          (Fixed kind 0 ∷ tail, ended_listed P (xs ++ z ∷ []) sample b (x ∷ Fixed kind 0 ∷ tail) (Fixed kind 0 ∷ tail) (each_more (λ y. P y >> g.mark k.Comma) xs z b m (x ∷ Fixed kind 0 ∷ tail) h d) (reads (Fixed kind 0 ∷ tail)), (0, refl)),
+    )
+    cases z false = (xs ++ z ∷ [], [], λ b m tail h d. (d.0, ended_listed P xs z b m d.0 h d.1, d.2))
 
 -- ---- items and words
 
@@ -139,7 +172,52 @@ word_failed p b m ahead h none = record { rejects = λ x after d. rejects x.0.at
         let same = ((numbers p q and marks k.Colon).joins b b m d.1.0 refl h d.1.1 refl refl).1 in
         none.rejects (n, more) after (d.0, subst (λ l. g.number SamePlace n l d.0) (sym same) d.1.2, d.2)
 
+pub colon_ahead : (p : Num) (b m : List Lexeme) → with_mark (g.number SamePlace) k.Colon p b m → kind_at 1 b ≡ Some k.Colon
+colon_ahead p b m h = let e : b ≡ Numbered p.value h.1.0 ∷ Fixed k.Colon h.2.0 ∷ m = cc (h.1.2, h.2.1) in ap (kind_at 1) e
+
+-- an item begins with a number
+pub no_number : (b : List Lexeme) → ((n : Num) (r : List Lexeme) → g.number SamePlace n b r → ⊥) → HasNone item_and_more b
+no_number b other = record { rejects = λ x after d. rejects x.0.at x.0.word x.1 after d }
+  where
+    rejects : (o : Option Num) (n : Num) (more : Bool) (after : List Lexeme) → ((g.item_offset SamePlace o >> g.number SamePlace n) >> more_or k.CloseBrace more) b after → ⊥
+    rejects None n more after d = other n d.0 (subst (λ l. g.number SamePlace n l d.0) (sym d.1.1) d.1.2)
+    rejects (Some p) n more after d = other p d.1.1.0 d.1.1.1
+
+-- and each of its parts may begin with any number
+word_begins : (b : List Lexeme) → ((l : List Lexeme) → take 1 l ≡ take 1 b → HasNone word_and_more l) → (n : Num) (r : List Lexeme) → g.number SamePlace n b r → ⊥
+word_begins b none n r h = (none (Numbered n.value h.0 ∷ a.mark k.CloseBrace ∷ []) (ap (λ l. take 1 l) (sym h.2))).rejects (n, false) [] (_, (h.0, h.1, refl), (0, refl))
+
+offset_begins : (b : List Lexeme) → ((l : List Lexeme) → take 1 l ≡ take 1 b → HasNone (with_mark (g.number SamePlace) k.Colon) l) → (n : Num) (r : List Lexeme) → g.number SamePlace n b r → ⊥
+offset_begins b none n r h = (none (Numbered n.value h.0 ∷ a.mark k.Colon ∷ []) (ap (λ l. take 1 l) (sym h.2))).rejects n [] (_, (h.0, h.1, refl), (0, refl))
+
+pub no_offset_near : (m b : List Lexeme) → (kind_at 1 m ≡ Some k.Colon → ⊥) → Near word_and_more m b → HasNone word_and_more b → HasNone item_and_more b
+no_offset_near m b ahead (same, inl none) h = no_number b (word_begins b none)
+no_offset_near m b ahead (same, inr same') h = no_offset b (λ e. ahead (sym same' ∙ e)) h
+
+pub offset_near : (m b : List Lexeme) → kind_at 1 m ≡ Some k.Colon → Near (with_mark (g.number SamePlace) k.Colon) m b → HasNone (with_mark (g.number SamePlace) k.Colon) b → HasNone item_and_more b
+offset_near m b ahead (same, inl none) h = no_number b (offset_begins b none)
+offset_near m b ahead (same, inr same') h = offset_failed b (same' ∙ ahead) h
+
 -- ---- the end of a table and of a variable
+
+pub contents_goes : Goes g.nothing (λ is_first. g.mark (if is_first then k.Equals else k.Semicolon)) (with_mark (g.contents SamePlace) k.Semicolon)
+contents_goes = first_goes cases
+  where
+    cases : (z : Bool) → (x : List Item) × (more : List Lexeme) × ((b tail : List Lexeme) → g.mark (if z then k.Equals else k.Semicolon) b (more ++ tail) → with_mark (g.contents SamePlace) k.Semicolon x b tail)
+    cases true = (
+      a.an_item ∷ [],
+      a.mark k.OpenBrace ∷ a.number ∷ a.mark k.CloseBrace ∷ a.mark k.Semicolon ∷ [],
+      λ b tail d.
+          (_, (_, d, (_, (0, refl), (_, (_, (_, refl, (0, refl, refl)), refl), (0, refl)))), (0, refl)),
+    )
+    cases false = ([], [], λ b tail d. (b, refl, d))
+
+pub first_value_goes : Goes g.nothing (λ is_first. g.mark (if is_first then k.Equals else k.Semicolon)) (with_mark (g.first_value SamePlace) k.Semicolon)
+first_value_goes = first_goes cases
+  where
+    cases : (z : Bool) → (x : Option Num) × (more : List Lexeme) × ((b tail : List Lexeme) → g.mark (if z then k.Equals else k.Semicolon) b (more ++ tail) → with_mark (g.first_value SamePlace) k.Semicolon x b tail)
+    cases true = (Some a.a_number, a.number ∷ a.mark k.Semicolon ∷ [], λ b tail d. (_, (_, d, (0, refl, refl)), (0, refl)))
+    cases false = (None, [], λ b tail d. (b, refl, d))
 
 pub contents_begin : (b : List Lexeme) → HasNone (λ is_first. g.mark (if is_first then k.Equals else k.Semicolon)) b → HasNone (with_mark (g.contents SamePlace) k.Semicolon) b
 contents_begin b none = record { rejects = rejects }

@@ -16,7 +16,7 @@ use Rattle.redn_parse.specs.declared.fault.ParseFault.TheVariants.{Unexpected, D
 use Rattle.redn_parse.specs.Lookahead.{kind_at, next_place, IsSlot}
 use Rattle.redn_parse.specs.Depth.{is_opening, IsFull, OpensDeepFrom}
 use Rattle.redn_parse.specs.Reads.{HasNone, item_and_more, unless, next, end}
-use Rattle.redn_parse.specs.Answers.{Gives, FailsWith, IsTooDeep}
+use Rattle.redn_parse.specs.Answers.{Gives, FailsWith}
 use Rattle.redn_parse.specs.Places as p
 use Rattle.redn_parse.proofs.Braces as braces
 use Rattle.redn_parse.proofs.Placed.{statement_out, kind_is}
@@ -150,10 +150,3 @@ pub another_place : FailsWith {T = File} (Err (Deep 3)) (Deep 4) → ⊥
 unfolding place_of
 another_place (inl e) = let wrong : 3 ≡ 4 = ap place_of e in omega (arith, wrong)
 another_place (inr e) = cc
-
-pub too_deep : IsTooDeep {T = File} (Err (Deep 3))
-too_deep = inl (3, refl)
-
-pub not_too_deep : IsTooDeep {T = File} (Err (Unexpected 3)) → ⊥
-not_too_deep (inl e) = cc (e.1)
-not_too_deep (inr e) = cc

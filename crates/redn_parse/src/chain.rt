@@ -4,7 +4,7 @@ ghost use Rattle.std.specs.Prelude.{◌≡◌, ℕ, ◌<◌, ◌≤◌, length, 
 ghost use Rattle.redn_syntax.specs.Grammar as g;
 ghost use Rattle.redn_syntax.specs.Grammar.{SamePlace};
 ghost use Rattle.redn_parse.specs.Reads as reading;
-ghost use Rattle.redn_parse.specs.Reads.{Reads, ReadsWithin, with_mark, all_before};
+ghost use Rattle.redn_parse.specs.Reads.{Reads, ReadsAll, ReadsAs, ReadsWithin, with_mark};
 
 use crate::list::add;
 use crate::phrase::{either_mark, name_before, number_before};
@@ -27,7 +27,7 @@ fn argument(reader: &mut Reader, alloc: Global) -> Result<Name, Stop>
 
 /// All arguments that follow.
 fn arguments(reader: &mut Reader, alloc: Global) -> Result<Items<Name>, Stop>
-    ensures reads { Reads (all_before (g.argument SamePlace) TokenKind.Arg)
+    ensures reads { ReadsAll (g.argument SamePlace) TokenKind.Arg
         reader.old reader.new result }
     ensures moves { OnOk result (length reader.new ≤ length reader.old) }
 {
@@ -64,7 +64,7 @@ fn variable(reader: &mut Reader, alloc: Global) -> Result<VarDecl, Stop>
 
 /// All variables that follow.
 fn variables(reader: &mut Reader, alloc: Global) -> Result<Items<VarDecl>, Stop>
-    ensures reads { Reads (all_before (g.variable SamePlace) TokenKind.Var)
+    ensures reads { ReadsAll (g.variable SamePlace) TokenKind.Var
         reader.old reader.new result }
     ensures moves { OnOk result (length reader.new ≤ length reader.old) }
 {
@@ -99,7 +99,8 @@ fn chain(reader: &mut Reader, alloc: Global) -> Result<Chain, Stop>
 
 /// One chain or more, up to the end.
 pub fn chains(reader: &mut Reader, alloc: Global) -> Result<Items<Chain>, Stop>
-    ensures { ReadsWithin reading.chains g.nothing 64 0 reader.old reader.new result }
+    ensures { ReadsAs reading.some_chains reading.chains g.nothing 64 0
+        reader.old reader.new result }
 {
     let mut chains = Items::new(alloc);
     loop {

@@ -5,7 +5,7 @@ ghost use Rattle.redn_syntax.specs.Grammar as g;
 ghost use Rattle.redn_syntax.specs.Grammar.{SamePlace};
 ghost use Rattle.redn_parse.specs.Lookahead.{kind_at, IsFixed, IsSlot};
 ghost use Rattle.redn_parse.specs.Reads as reading;
-ghost use Rattle.redn_parse.specs.Reads.{Reads, ReadsForm, ReadsWithin, IsOnly, with_mark, unless};
+ghost use Rattle.redn_parse.specs.Reads.{Reads, ReadsForm, ReadsAs, ReadsWithin, IsSole, with_mark, unless};
 
 use crate::list::add;
 use crate::phrase::{either_mark, name_before, number_before, slot_before, value, value_before};
@@ -196,7 +196,7 @@ fn otherwise(reader: &mut Reader, alloc: Global, room: u32) -> Result<Items<Stmt
     ensures reads { ReadsWithin reading.otherwise (unless TokenKind.Else) room (65 - room)
         reader.old reader.new result }
     ensures only { IfOk result
-        (IsOnly reading.otherwise (unless TokenKind.Else) reader.old reader.new) }
+        (IsSole reading.otherwise (unless TokenKind.Else) reader.old reader.new) }
     ensures moves { OnOk result (length reader.new ≤ length reader.old) }
 {
     if !reader.is_ahead(0, TokenKind::Else) {
@@ -212,7 +212,7 @@ fn if_statement(reader: &mut Reader, alloc: Global, room: u32) -> Result<StmtKin
     requires room { room ≤ 64 }
     ensures reads { ReadsWithin reading.form (unless TokenKind.Else) room (65 - room)
         reader.old reader.new result }
-    ensures only { IfOk result (IsOnly reading.form (unless TokenKind.Else) reader.old reader.new) }
+    ensures only { IfOk result (IsSole reading.form (unless TokenKind.Else) reader.old reader.new) }
     ensures moves { OnOk result (length reader.new < length reader.old) }
 {
     reader.mark(TokenKind::If)?;
@@ -234,7 +234,7 @@ fn loop_statement(reader: &mut Reader, alloc: Global, room: u32) -> Result<StmtK
     requires room { room ≤ 64 }
     ensures reads { ReadsWithin reading.form (unless TokenKind.Else) room (65 - room)
         reader.old reader.new result }
-    ensures only { IfOk result (IsOnly reading.form (unless TokenKind.Else) reader.old reader.new) }
+    ensures only { IfOk result (IsSole reading.form (unless TokenKind.Else) reader.old reader.new) }
     ensures moves { OnOk result (length reader.new < length reader.old) }
 {
     reader.mark(TokenKind::Loop)?;
@@ -248,7 +248,7 @@ fn repeat_statement(reader: &mut Reader, alloc: Global, room: u32) -> Result<Stm
     requires room { room ≤ 64 }
     ensures reads { ReadsWithin reading.form (unless TokenKind.Else) room (65 - room)
         reader.old reader.new result }
-    ensures only { IfOk result (IsOnly reading.form (unless TokenKind.Else) reader.old reader.new) }
+    ensures only { IfOk result (IsSole reading.form (unless TokenKind.Else) reader.old reader.new) }
     ensures moves { OnOk result (length reader.new < length reader.old) }
 {
     reader.mark(TokenKind::Repeat)?;
@@ -263,7 +263,7 @@ fn statement_kind(reader: &mut Reader, alloc: Global, room: u32) -> Result<StmtK
     requires { room ≤ 64 }
     ensures reads { ReadsWithin reading.form (unless TokenKind.Else) room (65 - room)
         reader.old reader.new result }
-    ensures only { IfOk result (IsOnly reading.form (unless TokenKind.Else) reader.old reader.new) }
+    ensures only { IfOk result (IsSole reading.form (unless TokenKind.Else) reader.old reader.new) }
     ensures moves { OnOk result (length reader.new < length reader.old) }
 {
     let Some(kind) = reader.kind() else {
@@ -288,7 +288,7 @@ fn statement(reader: &mut Reader, alloc: Global, room: u32) -> Result<Stmt, Stop
     ensures reads { ReadsWithin reading.statement (unless TokenKind.Else) room (65 - room)
         reader.old reader.new result }
     ensures only { IfOk result
-        (IsOnly reading.statement (unless TokenKind.Else) reader.old reader.new) }
+        (IsSole reading.statement (unless TokenKind.Else) reader.old reader.new) }
     ensures moves { OnOk result (length reader.new < length reader.old) }
 {
     let at = reader.place();
@@ -300,7 +300,7 @@ fn statement(reader: &mut Reader, alloc: Global, room: u32) -> Result<Stmt, Stop
 #[cycle(statement)]
 pub fn body(reader: &mut Reader, alloc: Global, room: u32) -> Result<Items<Stmt>, Stop>
     requires { room ≤ 64 }
-    ensures reads { ReadsWithin reading.body g.nothing room (65 - room)
+    ensures reads { ReadsAs reading.statements reading.body g.nothing room (65 - room)
         reader.old reader.new result }
     ensures moves { OnOk result (length reader.new ≤ length reader.old) }
 {

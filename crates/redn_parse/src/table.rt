@@ -3,7 +3,7 @@
 ghost use Rattle.std.specs.Prelude.{◌≡◌, ◌<◌, ◌≤◌, length, OnOk, if◌then◌else◌};
 ghost use Rattle.redn_syntax.specs.Grammar as g;
 ghost use Rattle.redn_syntax.specs.Grammar.{SamePlace};
-ghost use Rattle.redn_parse.specs.Reads.{Reads, word_and_more, item_and_more, with_mark, all_before};
+ghost use Rattle.redn_parse.specs.Reads.{Reads, word_and_more, item_and_more, with_mark, ReadsAll};
 
 use crate::list::add;
 use crate::phrase::{either_mark, name_before, number_before};
@@ -88,7 +88,7 @@ fn table(reader: &mut Reader, alloc: Global) -> Result<Table, Stop>
 
 /// All tables that follow.
 pub fn tables(reader: &mut Reader, alloc: Global) -> Result<Items<Table>, Stop>
-    ensures reads { Reads (all_before (g.table SamePlace) TokenKind.Table)
+    ensures reads { ReadsAll (g.table SamePlace) TokenKind.Table
         reader.old reader.new result }
     ensures moves { OnOk result (length reader.new ≤ length reader.old) }
 {

@@ -1,40 +1,73 @@
-use Rattle.std.proofs.Common.{subst, sym}
+use Rattle.std.proofs.Common.{[], ◌∷◌, refl, subst, sym, ◌∙◌}
 use Rattle.redn_syntax.specs.declared.token.TokenKind.TheVariants as k
+use Rattle.redn_syntax.specs.declared.tree.StmtKind.TheVariants as s
 use Rattle.redn_syntax.specs.declared.tree.StmtKind.TheVariants.{outs-Lookup}
 use Rattle.redn_syntax.specs.Grammar as g
 use Rattle.redn_syntax.specs.Grammar.{SamePlace}
+use Rattle.redn_parse.proofs.Samples as a
 use Rattle.redn_parse.proofs.Same.{names, marks, past, ◌and◌}
 use Rattle.redn_parse.proofs.Trees.{slots}
-use Rattle.redn_parse.proofs.Passed.{unread, behind}
+use Rattle.redn_parse.proofs.Fronts.{marked, named, slot, ◌plus◌}
+use Rattle.redn_parse.proofs.Passed.{unread, start, read, ◌also◌, behind, goes, blames, first_goes, first_blames}
 use Rattle.redn_parse.proofs.Forms.{no_lookup}
+use Rattle.redn_parse.proofs.Plain.{a_lookup, near_mark}
 use Rattle.redn_parse.proofs.statement.lookup.Goals as goal
 
 pub returns-in_err-mark-clause-reads : goal.returns-in_err-mark-clause-reads
 unfolding g.form
 returns-in_err-mark-clause-reads c =
-    unread _ _ c.from_residual.ensures.1 c.in_err-mark.ensures.reads (λ none. no_lookup _ c.requires (λ d to t offset key bound after h. none.rejects tt h.0 h.1))
+    unread _ _ c.from_residual.ensures.1 c.in_err-mark.ensures.reads start
+    (first_goes (λ z. (
+      s.Lookup a.a_name a.a_name a.a_value a.a_value a.a_number,
+      a.name ∷ a.mark k.Equals ∷ a.name ∷ a.mark k.OpenBracket ∷ a.number ∷ a.mark k.CloseBracket ∷ a.mark k.Key ∷ a.number ∷ a.mark k.Probes ∷ a.number ∷ a.mark k.Semicolon ∷ [],
+      λ b tail d. a_lookup a.a_name a.a_name a.a_value a.a_value a.a_number b tail (_, d, (_, (0, refl, refl), (_, (0, refl), (_, (_, (0, refl, refl), (_, (0, refl), (_, (0, refl, refl), (0, refl)))), (_, (0, refl), (_, (0, refl, refl), (_, (0, refl), (_, (0, refl, refl), (0, refl))))))))),
+    )))
+    (first_blames (λ b near none. no_lookup b (near.0 ∙ c.requires) (λ d to t offset key bound after h. none.rejects tt h.0 h.1)))
 
 pub returns-in_err-to-clause-reads : goal.returns-in_err-to-clause-reads
 unfolding g.form
 returns-in_err-to-clause-reads c =
-    unread _ _ c.from_residual-in_err-to.ensures.1 c.in_err-to.ensures.reads (λ none. no_lookup _ c.requires (λ d to t offset key bound after h.
-    (behind (marks k.Lookup) c.in_ok-mark.ensures.reads h.1 none).rejects to h.2.2.0 (h.2.0, h.2.1, h.2.2.1)))
+    unread _ _ c.from_residual-in_err-to.ensures.1 c.in_err-to.ensures.reads (read (marked k.Lookup) c.in_ok-mark.ensures.reads)
+    (goes (λ z. (
+      s.Lookup z a.a_name a.a_value a.a_value a.a_number,
+      a.name ∷ a.mark k.OpenBracket ∷ a.number ∷ a.mark k.CloseBracket ∷ a.mark k.Key ∷ a.number ∷ a.mark k.Probes ∷ a.number ∷ a.mark k.Semicolon ∷ [],
+      λ b m tail h d. a_lookup z a.a_name a.a_value a.a_value a.a_number b tail (m, h, (d.0, d.1, (_, d.2, (_, (_, (0, refl, refl), (_, (0, refl), (_, (0, refl, refl), (0, refl)))), (_, (0, refl), (_, (0, refl, refl), (_, (0, refl), (_, (0, refl, refl), (0, refl))))))))),
+    )))
+    (blames (λ b m near h none. no_lookup b (near_mark k.Lookup b m h) (λ d to t offset key bound after h'.
+    (behind (marks k.Lookup) h h'.1 none).rejects to h'.2.2.0 (h'.2.0, h'.2.1, h'.2.2.1))))
 
 pub returns-in_err-table-clause-reads : goal.returns-in_err-table-clause-reads
 unfolding g.form
 returns-in_err-table-clause-reads c =
-    unread _ _ c.from_residual-in_err-table.ensures.1 c.in_err-table.ensures.reads (λ none. no_lookup _ c.requires (λ d to t offset key bound after h.
-    let r = h.2.2.2 in
-    (behind (past k.Lookup (names c.in_ok-to.to to and marks k.Equals)) (_, c.in_ok-mark.ensures.reads, c.in_ok-to.ensures.reads) (h.0, h.1, (h.2.0, h.2.1, h.2.2.1)) none).rejects (t, offset) r.2.0 (r.0, r.1, r.2.1)))
+    let to = c.in_ok-to.to in
+    unread _ _ c.from_residual-in_err-table.ensures.1 c.in_err-table.ensures.reads (read (marked k.Lookup) c.in_ok-mark.ensures.reads also read (named to plus marked k.Equals) c.in_ok-to.ensures.reads)
+    (goes (λ z. (
+      s.Lookup to z.0 z.1 a.a_value a.a_number,
+      a.number ∷ a.mark k.Probes ∷ a.number ∷ a.mark k.Semicolon ∷ [],
+      λ b m tail h d. a_lookup to z.0 z.1 a.a_value a.a_number b tail (h.0, h.1, (h.2.0, h.2.1, (m, h.2.2, (d.0, d.1, (_, d.2, (_, (0, refl, refl), (_, (0, refl), (_, (0, refl, refl), (0, refl))))))))),
+    )))
+    (blames (λ b m near h none. no_lookup b (near_mark k.Lookup b h.0 h.1) (λ d to' t offset key bound after h'.
+    let r = h'.2.2.2 in
+    (behind (past k.Lookup (names to to' and marks k.Equals)) h (h'.0, h'.1, (h'.2.0, h'.2.1, h'.2.2.1)) none).rejects (t, offset) r.2.0 (r.0, r.1, r.2.1))))
 
 pub returns-in_err-key-clause-reads : goal.returns-in_err-key-clause-reads
 unfolding g.form
 returns-in_err-key-clause-reads c =
+    let to = c.in_ok-to.to in
+    let table = c.in_ok-table.table in
+    let offset = c.in_ok-table.offset in
     let target = c.in_ok-to.ensures.reads in
-    unread _ _ c.from_residual-in_err-key.ensures.1 c.in_err-key.ensures.reads (λ none. no_lookup _ c.requires (λ d to t offset key bound after h.
-    let r = h.2.2.2 in
-    (behind (past k.Lookup (names c.in_ok-to.to to and past k.Equals (slots c.in_ok-table.table t c.in_ok-table.offset offset and marks k.Key)))
-    (_, c.in_ok-mark.ensures.reads, (target.0, target.1, (_, target.2, c.in_ok-table.ensures.reads))) (h.0, h.1, (h.2.0, h.2.1, (h.2.2.0, h.2.2.1, (r.0, r.1, r.2.1)))) none).rejects (key, bound) after r.2.2))
+    unread _ _ c.from_residual-in_err-key.ensures.1 c.in_err-key.ensures.reads
+    (read (marked k.Lookup plus (named to plus (marked k.Equals plus (slot table offset plus marked k.Key))))
+    (_, c.in_ok-mark.ensures.reads, (target.0, target.1, (_, target.2, c.in_ok-table.ensures.reads))))
+    (goes (λ z. (
+      s.Lookup to table offset z.0 z.1,
+      [],
+      λ b m tail h d. a_lookup to table offset z.0 z.1 b tail (h.0, h.1, (h.2.0, h.2.1, (h.2.2.0, h.2.2.1, (h.2.2.2.0, h.2.2.2.1, (m, h.2.2.2.2, d))))),
+    )))
+    (blames (λ b m near h none. no_lookup b (near_mark k.Lookup b h.0 h.1) (λ d to' t' offset' key bound after h'.
+    let r = h'.2.2.2 in
+    (behind (past k.Lookup (names to to' and past k.Equals (slots table t' offset offset' and marks k.Key))) h (h'.0, h'.1, (h'.2.0, h'.2.1, (h'.2.2.0, h'.2.2.1, (r.0, r.1, r.2.1)))) none).rejects (key, bound) after r.2.2)))
 
 pub returns-clause-reads : goal.returns-clause-reads
 unfolding g.form

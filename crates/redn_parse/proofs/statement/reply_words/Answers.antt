@@ -1,15 +1,20 @@
-use Rattle.std.proofs.Common.{arith, ◌≡◌, true, false, subst, sym}
+use Rattle.std.proofs.Common.{arith, ◌≡◌, true, false, refl, subst, sym}
 use Rattle.redn_syntax.specs.declared.token.TokenKind.TheVariants as k
 use Rattle.redn_syntax.specs.Grammar as g
 use Rattle.redn_syntax.specs.Grammar.{SamePlace, ◌>>◌}
 use Rattle.redn_parse.specs.Reads.{with_mark, more_or}
-use Rattle.redn_parse.proofs.Passed.{unread}
-use Rattle.redn_parse.proofs.Lists.{commas, each_more, ended_listed, listed_blocked, one_word}
+use Rattle.redn_parse.proofs.Samples as a
+use Rattle.redn_parse.proofs.Fronts as fronts
+use Rattle.redn_parse.proofs.Passed.{unread, read, blames}
+use Rattle.redn_parse.proofs.Lists.{commas, each_more, ended_listed, listed_blocked, listed_goes, one_word}
 use Rattle.redn_parse.proofs.statement.reply_words.Goals as goal
 
 pub returns-in_err-word-clause-reads : goal.returns-in_err-word-clause-reads
 returns-in_err-word-clause-reads c =
-    unread _ _ c.from_residual.ensures.1 c.in_err-word.ensures.reads (listed_blocked (g.value SamePlace) k.Semicolon one_word _ _ _ c.loop-words.invariant.reads)
+    let words = c.loop-words.words in
+    unread _ _ c.from_residual.ensures.1 c.in_err-word.ensures.reads (read (fronts.commas (g.value SamePlace) fronts.valued words) c.loop-words.invariant.reads)
+    (listed_goes (g.value SamePlace) k.Semicolon a.a_value a.number (λ tail. (0, refl, refl)) words)
+    (blames (λ b m near h none. listed_blocked (g.value SamePlace) k.Semicolon one_word words b m h none))
 
 pub returns-then-not-more-clause-reads : goal.returns-then-not-more-clause-reads
 returns-then-not-more-clause-reads c =

@@ -1,15 +1,20 @@
-use Rattle.std.proofs.Common.{arith, ◌≡◌, true, false, subst, sym}
+use Rattle.std.proofs.Common.{arith, ◌≡◌, true, false, refl, subst, sym}
 use Rattle.redn_syntax.specs.declared.token.TokenKind.TheVariants as k
 use Rattle.redn_syntax.specs.Grammar as g
 use Rattle.redn_syntax.specs.Grammar.{SamePlace, ◌>>◌}
 use Rattle.redn_parse.specs.Reads.{with_mark, more_or}
-use Rattle.redn_parse.proofs.Passed.{unread}
-use Rattle.redn_parse.proofs.Lists.{commas, each_more, ended_listed, listed_blocked, one_item}
+use Rattle.redn_parse.proofs.Samples as a
+use Rattle.redn_parse.proofs.Fronts as fronts
+use Rattle.redn_parse.proofs.Passed.{unread, read, blames}
+use Rattle.redn_parse.proofs.Lists.{commas, each_more, ended_listed, listed_blocked, listed_goes, one_item}
 use Rattle.redn_parse.proofs.table.items.Goals as goal
 
 pub returns-in_err-item-clause-reads : goal.returns-in_err-item-clause-reads
 returns-in_err-item-clause-reads c =
-    unread _ _ c.from_residual.ensures.1 c.in_err-item.ensures.reads (listed_blocked (g.item SamePlace) k.CloseBrace one_item _ _ _ c.loop-items.invariant.reads)
+    let items = c.loop-items.items in
+    unread _ _ c.from_residual.ensures.1 c.in_err-item.ensures.reads (read (fronts.commas (g.item SamePlace) fronts.item items) c.loop-items.invariant.reads)
+    (listed_goes (g.item SamePlace) k.CloseBrace a.an_item a.number (λ tail. (_, refl, (0, refl, refl))) items)
+    (blames (λ b m near h none. listed_blocked (g.item SamePlace) k.CloseBrace one_item items b m h none))
 
 pub returns-then-not-more-clause-reads : goal.returns-then-not-more-clause-reads
 returns-then-not-more-clause-reads c =
