@@ -7,4 +7,6 @@ pub mod Images
 pub mod Marking
 pub mod Stepping
 pub mod Acting
+pub mod Keeping
 mod Worked
+mod WorkedKeeping

@@ -5,3 +5,4 @@ pub mod ChainView
 pub mod AdapterView
 pub mod Quiet
 pub mod Busy
+pub mod Keeping

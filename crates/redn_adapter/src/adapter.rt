@@ -95,12 +95,14 @@ impl Adapter {
     ghost use Rattle.std.specs.Option.{option_map, option_copied};
     ghost use Rattle.std.specs.List.{All};
     ghost use Rattle.redn_words.specs.Laws.{row_at};
+    ghost use Rattle.redn_words.specs.InOrder.{IsInside};
     ghost use Rattle.redn_adapter.specs.Quiet.{IsQuiet, is_active, has_message};
     ghost use Rattle.redn_adapter.specs.Busy.{HasActive};
     ghost use Rattle.redn_words.specs.Steps.{possible, after, shown, step, start_possible, deliver_possible, class_of, counter_of, may_start, may_raise, refused_start};
     ghost use Rattle.redn_words.specs.declared.types.Action.TheVariants as act;
     ghost use Rattle.redn_adapter.specs.Running.{stepped, next_of, Runs, HeadIsHeld, HasRoom, aside, raised_after, flown_after, started_after, started_shown, CanStart};
     ghost use Rattle.redn_adapter.specs.AdapterView.{IsRing};
+    ghost use Rattle.redn_adapter.specs.Keeping.{KeepsShape, LandsRefused};
 
     /// The steps made since the adapter was opened.
     pub fn steps(&self) -> u64
@@ -181,6 +183,29 @@ impl Adapter {
     /// Makes one step and tells what it shows, or leaves all as it was where the action isn't
     /// possible.
     pub fn step(&mut self, a: Action) -> Option<Obs>
+        requires { self.old.steps < 2 ^ 62 }
+        ensures shown { result ≡ option_map (λ p. p.1) (step self.old.state a) }
+        ensures after { self.new ≡ stepped self.old (step self.old.state a) }
+
+        // Whatever the image: rows and the length of memory stay, and a refused landing changes no
+        // byte of memory.
+        ensures keeps { KeepsShape self.old.state self.new.state }
+        ensures refused { (q i : ℕ) → a ≡ act.Land q i → LandsRefused self.old.state q i
+            → self.new.state.memory ≡ self.old.state.memory }
+    {
+        self.lies_inside();
+        self.make(a)
+    }
+
+    /// Regions and messages lie in memory. A call does nothing.
+    fn lies_inside(&self)
+        ensures { IsInside self.now.state }
+    {
+        let _ = self.memory.len();
+    }
+
+    /// The step by its action.
+    fn make(&mut self, a: Action) -> Option<Obs>
         requires { self.old.steps < 2 ^ 62 }
         ensures shown { result ≡ option_map (λ p. p.1) (step self.old.state a) }
         ensures after { self.new ≡ stepped self.old (step self.old.state a) }

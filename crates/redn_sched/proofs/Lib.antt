@@ -1,6 +1,7 @@
 pub mod Fields
 pub mod Cuts
 pub mod OneReading
+pub mod Readings
 pub mod Replay
 pub mod BadLines
 mod Worked

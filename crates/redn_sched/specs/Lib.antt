@@ -6,3 +6,4 @@ pub mod Shuffles
 pub mod ShuffleView
 pub mod Pieces
 pub mod Nearest
+pub mod Laws

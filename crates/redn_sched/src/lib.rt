@@ -2,6 +2,7 @@
 
 mod choices;
 mod fair;
+mod laws;
 mod line;
 mod reader;
 mod shuffle;
@@ -10,6 +11,7 @@ mod turns;
 mod written;
 
 pub use fair::Fair;
+pub use laws::{beginnings_are_read, each_text_is_read, each_text_is_read_once};
 pub use line::{Line, read_line, read_number, read_small, split_field};
 pub use reader::{Fed, Got, ScheduleReader};
 pub use shuffle::Shuffle;

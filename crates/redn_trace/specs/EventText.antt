@@ -1,7 +1,10 @@
 -- The line of an event.
 use Rattle.std.specs.Prelude.{ℕ, ◌≤◌, List, [], ◌∷◌, ◌++◌, take, codes, decimal}
 use Rattle.std.specs.List.{flat_map}
+use Rattle.redn_words.specs.declared.types.Action.{Action}
 use Rattle.redn_words.specs.declared.types.Obs.{Obs}
+use Rattle.redn_words.specs.States.{State}
+use Rattle.redn_words.specs.Steps.{shown}
 use Rattle.redn_words.specs.declared.types.Obs.TheVariants as shows
 
 -- a number after a space
@@ -38,3 +41,7 @@ IsOfTable (shows.Look c t o w) = Unit {0}
 IsOfTable (shows.Store c t o w) = Unit {0}
 IsOfTable (shows.Fault c t o) = Unit {0}
 IsOfTable _ = ⊥
+
+-- whatever an action shows, in whatever state, has a line
+abbrev pub EachEventHasALine : Type 0
+EachEventHasALine = (s : State) (a : Action) → IsPrintable (shown s a)
