@@ -56,7 +56,7 @@ rows n (suc m) few =
     (subst (λ l. InARow l (2 * suc m)) (sym (next_bucket n m)) (subst (InARow _) count both))
 
 -- `t` with any items
-abbrev table_of : List Item → Table
+abbrev pub table_of : List Item → Table
 table_of items = record { name = name (codes "t"); length = number 8192; writable = false; items = items }
 
 table_kept : (items : List Item) → all_misplaced items ≡ [] → table_faults [] (table_of items) ≡ []

@@ -5,6 +5,8 @@ mod file;
 mod messages;
 mod number;
 mod part;
+mod runs;
 
 pub use file::gen_file;
 pub use messages::gen_messages;
+pub use runs::each_chain_replies;
