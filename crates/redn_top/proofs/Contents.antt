@@ -10,7 +10,7 @@ use Rattle.redn_top.specs.declared.status.TextFault.TheVariants.{Line}
 use Rattle.redn_top.specs.declared.status.ImageFault.TheVariants.{Rule}
 use Rattle.redn_image.specs.Spelling.{refused}
 use Rattle.redn_top.specs.declared.status.Status.{Status}
-use Rattle.redn_top.specs.declared.status.Status.TheVariants.{Done, Words, Schedule as BadSchedule, ReadFailed, Missing, WriteFailed, Long, Text, Program as ProgramRefused, Image, Memory, Step, Message, NotBuilt}
+use Rattle.redn_top.specs.declared.status.Status.TheVariants.{Done, Words, Schedule as BadSchedule, ReadFailed, Missing, WriteFailed, Long, Text, Program as ProgramRefused, Image, Memory, Step, Message}
 use Rattle.redn_top.specs.Sources.{IsTextOf, Means}
 use Rattle.redn_top.specs.Reasons.{Never, NoneHolds, no_tree, no_program, wrong_line, source_reasons, image_reasons, listing_reasons, First}
 use Rattle.redn_top.specs.Refusals.{Refuses, SourceRefused}
@@ -44,7 +44,6 @@ module _ (text : List ℕ) where
   source_refused (Image fault) h = absurd h
   source_refused (Step line) h = absurd h
   source_refused (Message fault) h = absurd h
-  source_refused NotBuilt h = absurd h
   source_refused Words h = absurd h
   source_refused (BadSchedule number) h = absurd h
 

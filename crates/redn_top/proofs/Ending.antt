@@ -1,5 +1,6 @@
 -- How commands end, by what their parts answer.
-use Rattle.std.proofs.Common.{◌≡◌, ℕ, List, [], ◌∷◌, ◌++◌, take, inl, inr, refl, sym, ap, subst, ◌∙◌}
+use Rattle.std.proofs.Common.{◌≡◌, ℕ, List, [], ◌∷◌, ◌++◌, take, drop, inl, inr, refl, sym, ap, subst, ◌∙◌}
+use Rattle.std.proofs.lemmas.List.{take-append-drop}
 use Rattle.std.specs.Prelude.{Option, Some, None, Result, Ok, Err, OnOk, IfErr}
 use Rattle.std.specs.Option.{option_map}
 use Rattle.redn_syntax.specs.declared.tree.File.{File}
@@ -17,11 +18,11 @@ use Rattle.redn_image.specs.Spelling.{Spells}
 use Rattle.redn_image.specs.Faithful.{Faithful}
 use Rattle.redn_top.specs.declared.limits.TheConstants.{FILE_LIMIT, IMAGE_LIMIT, LISTING_LIMIT}
 use Rattle.redn_top.specs.declared.status.Status.{Status}
-use Rattle.redn_top.specs.declared.status.Status.TheVariants.{Done, Words, Schedule as BadSchedule, ReadFailed, Missing, WriteFailed, Long, Text, Program as ProgramRefused, Image as ImageRefused, Memory, Step, Message, NotBuilt}
+use Rattle.redn_top.specs.declared.status.Status.TheVariants.{Done, Words, Schedule as BadSchedule, ReadFailed, Missing, WriteFailed, Long, Text, Program as ProgramRefused, Image as ImageRefused, Memory, Step, Message}
 use Rattle.redn_command.specs.Words.{Command, Check, Compile, Disasm, Assemble}
 use Rattle.redn_top.specs.Sources.{IsTextOf, Means}
 use Rattle.redn_top.specs.Reasons.{Input, IsInput, NoneHolds, First, read_reasons, source_reasons, image_reasons, listing_reasons, reasons}
-use Rattle.redn_top.specs.Answers.{Written, Listed, Checked, Answered, Ends, with_written, status_of}
+use Rattle.redn_top.specs.Answers.{Written, Listed, Checked, IsPart, Answered, Ends, with_written, status_of}
 use Rattle.redn_top.specs.Refusals.{IsHeld, ReadsRefuse, ReadRefused, Refuses, SourceRefused, LinesRefused, PutRefused, WriteRefused}
 use Rattle.redn_top.proofs.FirstReason.{first_here, first_behind, none_both, refuses_map, reads_map, read_passed}
 use Rattle.redn_top.proofs.Contents.{means_none, source_refused}
@@ -44,7 +45,7 @@ module _ (c : Command) (before now : StoreSeen) (out : SinkSeen) (told : now.tol
 
   pub reads_end : (s : Status) → ReadsRefuse (reasons c i) before now s → Ends c before now out out s
   reads_end ReadFailed h = (h, record { holds = told; prints = refl })
-  reads_end Memory h = tt
+  reads_end Memory h = inl (record { holds = told; prints = refl })
   reads_end Missing h = (h.0, told_refusal Missing h.1)
   reads_end (Long seen limit) h = (h.0, told_refusal (Long seen limit) h.1)
   reads_end Done h = absurd h
@@ -54,16 +55,14 @@ module _ (c : Command) (before now : StoreSeen) (out : SinkSeen) (told : now.tol
   reads_end (ImageRefused fault) h = absurd h
   reads_end (Step line) h = absurd h
   reads_end (Message fault) h = absurd h
-  reads_end NotBuilt h = absurd h
   reads_end Words h = absurd h
   reads_end (BadSchedule number) h = absurd h
 
   pub contents_end : (s : Status) → Refuses (reasons c i) s → Ends c before now out out s
-  contents_end Memory h = tt
+  contents_end Memory h = inl (record { holds = told; prints = refl })
   contents_end (Text fault) h = told_refusal (Text fault) h
   contents_end (ProgramRefused rule at seen) h = told_refusal (ProgramRefused rule at seen) h
   contents_end (ImageRefused fault) h = told_refusal (ImageRefused fault) h
-  contents_end NotBuilt h = absurd h
   contents_end Words h = absurd h
   contents_end (BadSchedule number) h = absurd h
   contents_end ReadFailed h = absurd h
@@ -78,8 +77,8 @@ module _ (c : Command) (before now : StoreSeen) (out : SinkSeen) (told : now.tol
 
 module _ (c : Command) (before mid now : StoreSeen) (out : SinkSeen) (keeps : KeepsFiles before mid) (i : Input) (is : IsInput before.told c i) (none : NoneHolds (reasons c i)) where
   pub write_ends : (s : Status) → WriteRefused mid now s → Ends c before now out out s
-  write_ends WriteFailed h = (i, is, none, inl (inl ((subst (λ (n : ℕ). Rose n now.counts.write_faults) keeps.write_faults h.0, sym keeps.reliable ∙ h.1), refl)))
-  write_ends Memory h = tt
+  write_ends WriteFailed h = inl ((subst (λ (n : ℕ). Rose n now.counts.write_faults) keeps.write_faults h.0, sym keeps.reliable ∙ h.1), inl (record { input = i; is_input = is; none = none; prints = refl }))
+  write_ends Memory h = inl (record { holds = ap (λ (x : StoreSeen). x.told) h ∙ keeps.told; prints = refl })
   write_ends Done h = absurd h
   write_ends ReadFailed h = absurd h
   write_ends Missing h = absurd h
@@ -89,7 +88,6 @@ module _ (c : Command) (before mid now : StoreSeen) (out : SinkSeen) (keeps : Ke
   write_ends (ImageRefused fault) h = absurd h
   write_ends (Step line) h = absurd h
   write_ends (Message fault) h = absurd h
-  write_ends NotBuilt h = absurd h
   write_ends Words h = absurd h
   write_ends (BadSchedule number) h = absurd h
 
@@ -128,9 +126,11 @@ module _ (file : List ℕ) (before now : StoreSeen) (out : SinkSeen) (told : now
           prints = e;
         }
         put_ends (Err WriteFailed) e h none =
-            let checked : Checked (one_file text) Done printed [] = record { source = text; file = f; found = refl; read = read; accepted = accepted; done = refl; prints = is; writes = refl } in
-            (one_file text, held.found, none, inl (inr (h.0, record { printed = take h.1.0 printed; written = []; is_part = (printed, h.1.0, checked, refl); holds = told ∙ written_nothing before.told; prints = h.1.1 })))
-        put_ends (Err Memory) e h none = tt
+            let both = take-append-drop h.1.0 printed in
+            let checked : Checked (one_file text) Done (take h.1.0 printed ++ drop h.1.0 printed) [] = record { source = text; file = f; found = refl; read = read; accepted = accepted; done = refl; prints = both ∙ is; writes = refl } in
+            let part : IsPart (Check file) (one_file text) (take h.1.0 printed) [] = record { status = Done; rest = drop h.1.0 printed; later = []; finishes = checked; behind = tt } in
+            inr (h.0, record { input = one_file text; printed = take h.1.0 printed; written = []; is_input = held.found; none = none; part = part; holds = told ∙ written_nothing before.told; prints = h.1.1 })
+        put_ends (Err Memory) e h none = absurd h
         put_ends (Err Done) e h none = absurd h
         put_ends (Err ReadFailed) e h none = absurd h
         put_ends (Err Missing) e h none = absurd h
@@ -140,7 +140,6 @@ module _ (file : List ℕ) (before now : StoreSeen) (out : SinkSeen) (told : now
         put_ends (Err (ImageRefused fault)) e h none = absurd h
         put_ends (Err (Step line)) e h none = absurd h
         put_ends (Err (Message fault)) e h none = absurd h
-        put_ends (Err NotBuilt) e h none = absurd h
         put_ends (Err Words) e h none = absurd h
         put_ends (Err (BadSchedule number)) e h none = absurd h
 
@@ -210,8 +209,9 @@ module _ (name : List ℕ) (before now : StoreSeen) (out : SinkSeen) (told : now
       }
       disasm_put (Err WriteFailed) e h =
           let listed : Listed (one_file bytes) (h.1.0 ++ h.1.1) = record { bytes = bytes; image = image; found = refl; spells = spells; prints = sym h.1.2 ∙ lists } in
-          (one_file bytes, held.found, disasm_none, inl (inr (h.0, record { printed = h.1.0; written = []; is_part = (h.1.1, listed, refl); holds = told ∙ written_nothing before.told; prints = h.1.3 })))
-      disasm_put (Err Memory) e h = tt
+          let part : IsPart (Disasm name) (one_file bytes) h.1.0 [] = record { status = Done; rest = h.1.1; later = []; finishes = (listed, refl, refl); behind = tt } in
+          inr (h.0, record { input = one_file bytes; printed = h.1.0; written = []; is_input = held.found; none = disasm_none; part = part; holds = told ∙ written_nothing before.told; prints = h.1.3 })
+      disasm_put (Err Memory) e h = absurd h
       disasm_put (Err Done) e h = absurd h
       disasm_put (Err ReadFailed) e h = absurd h
       disasm_put (Err Missing) e h = absurd h
@@ -221,7 +221,6 @@ module _ (name : List ℕ) (before now : StoreSeen) (out : SinkSeen) (told : now
       disasm_put (Err (ImageRefused fault)) e h = absurd h
       disasm_put (Err (Step line)) e h = absurd h
       disasm_put (Err (Message fault)) e h = absurd h
-      disasm_put (Err NotBuilt) e h = absurd h
       disasm_put (Err Words) e h = absurd h
       disasm_put (Err (BadSchedule number)) e h = absurd h
 

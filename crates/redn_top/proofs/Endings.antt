@@ -1,5 +1,5 @@
 -- How runs end, by what their parts answer.
-use Rattle.std.proofs.Common.{◌≡◌, ℕ, ◌≤◌, List, [], ◌∷◌, ◌++◌, length, inl, inr, refl, sym, ap, subst, ◌∙◌}
+use Rattle.std.proofs.Common.{◌≡◌, ℕ, ◌≤◌, List, [], ◌∷◌, ◌++◌, length, inl, inr, refl, sym, ap, subst, ◌∙◌, append-nil}
 use Rattle.std.specs.Prelude.{Option, Some, None, Result, Ok, Err, OnOk, IfErr}
 use Rattle.std.specs.Option.{option_map}
 use Rattle.redn_kernel.specs.declared.types.Program.{Program}
@@ -14,14 +14,13 @@ use Rattle.redn_words.specs.declared.types.Action.{Action}
 use Rattle.redn_command.specs.Words.{Command, Check, Compile, Run, Go, Disasm, Assemble, Gen, Plan, Schedule, Fair, Shuffle, RunWords, MessageWord}
 use Rattle.redn_top.specs.declared.limits.TheConstants.{FILE_LIMIT, IMAGE_LIMIT, SCHEDULE_LIMIT}
 use Rattle.redn_top.specs.declared.status.Status.{Status}
-use Rattle.redn_top.specs.declared.status.Status.TheVariants.{Done, Words, Schedule as BadSchedule, ReadFailed, Missing, WriteFailed, Long, Text, Program as ProgramRefused, Image as ImageRefused, Memory, Step, Message, NotBuilt}
+use Rattle.redn_top.specs.declared.status.Status.TheVariants.{Done, Words, Schedule as BadSchedule, ReadFailed, Missing, WriteFailed, Long, Text, Program as ProgramRefused, Image as ImageRefused, Memory, Step, Message}
 use Rattle.redn_top.specs.Sources.{Means}
 use Rattle.redn_top.specs.RunText.{planned}
 use Rattle.redn_top.specs.Reasons.{Input, IsInput, IsPlanInput, NoneHolds, read_reasons, plan_reads, run_reads, source_reasons, image_reasons, reasons}
-use Rattle.redn_top.specs.Answers.{Written, Compiled, Ran, RunsMade, IsMadePart, IsRunPart, opened, kept, with_written, Answered, Ends, OthersStayThan, Spares, status_of}
-use Rattle.redn_top.specs.Refusals.{IsHeld, IsPlanHeld, HasText, IsRunnable, IsFew, MakesActions, RunReadRefused, Refuses, ImageRan, MadeWhole, MadeStopped, WriteRefused, RunEnded, RunEnds, run_of}
+use Rattle.redn_top.specs.Answers.{Written, Compiled, Ran, RunsMade, RunsImage, opened, kept, with_written, Answered, BrokeOff, Ends, OthersStayThan, Spares, status_of}
+use Rattle.redn_top.specs.Refusals.{IsHeld, IsPlanHeld, HasText, IsRunnable, IsFew, MakesActions, RunReadRefused, Refuses, ImageRan, MadeWhole, MadeStopped, WriteRefused, PrintedPart, RunEnded, RunBroke, RunEnds, run_of}
 use Rattle.redn_top.proofs.FirstReason.{first_here, first_behind, none_both, refuses_map, reads_map, read_passed, rose_from}
-use Rattle.redn_top.proofs.ImageRuns.{told_nothing}
 use Rattle.redn_top.proofs.Ending.{written_nothing, written_one, reads_end, contents_end, write_ends}
 
 -- ---- a run by its plan
@@ -34,13 +33,16 @@ module _ (file : List ℕ) (keep : Option (List ℕ)) (words : List MessageWord)
   nothing_kept : kept asked image Done ≡ []
   nothing_kept = rw none refl
 
+  broke : PrintedPart (RunsImage image words text) out out_now → RunBroke (Some text) asked image before before out out_now
+  broke h = record { printed = h.0; part = (h.1.0, h.1.1, record { text = text; found = refl; runs = h.1.2 }); holds = refl; prints = h.2 }
+
   under_schedule : (s : Status) → ImageRan image words text out out_now s → RunEnds (Some text) asked image before before out out_now s
   under_schedule Done h = record { printed = h.0; ran = record { text = text; found = refl; runs = h.1 }; holds = written_nothing before.told ∙ ap (λ (w : List Written). option_map (with_written w) before.told) (sym nothing_kept); prints = h.2 }
   under_schedule (Step line) h = record { printed = h.0; ran = record { text = text; found = refl; runs = h.1 }; holds = written_nothing before.told; prints = h.2 }
   under_schedule (BadSchedule line) h = record { printed = h.0; ran = record { text = text; found = refl; runs = h.1 }; holds = written_nothing before.told; prints = h.2 }
   under_schedule (Message fault) h = record { printed = h.0; ran = record { text = text; found = refl; runs = h.1 }; holds = written_nothing before.told; prints = h.2 }
-  under_schedule WriteFailed h = inl (record { printed = h.1.0; failed = h.0; part = (text, refl, h.1.1.0, h.1.1.1); holds = refl; prints = h.1.2 })
-  under_schedule Memory h = tt
+  under_schedule WriteFailed h = inl (h.0, broke h.1)
+  under_schedule Memory h = broke h
   under_schedule Words h = absurd h
   under_schedule ReadFailed h = absurd h
   under_schedule Missing h = absurd h
@@ -48,7 +50,6 @@ module _ (file : List ℕ) (keep : Option (List ℕ)) (words : List MessageWord)
   under_schedule (Text fault) h = absurd h
   under_schedule (ProgramRefused rule at seen) h = absurd h
   under_schedule (ImageRefused fault) h = absurd h
-  under_schedule NotBuilt h = absurd h
 
 pub schedule_ends : (p : Plan) (keep : Option (List ℕ)) (words : List MessageWord) (image : Image) (text : List ℕ) → HasText p (Some text) → IsRunnable p keep → (before : StoreSeen) (out out_now : SinkSeen) (s : Status) → ImageRan image words text out out_now s → RunEnds (Some text) (run_of p keep words) image before before out out_now s
 schedule_ends (Schedule file) keep words image text has runs before out out_now s h = under_schedule file keep words image text runs before out out_now s h
@@ -60,17 +61,15 @@ ran_made (Schedule file) words image has s printed ran = absurd has
 ran_made (Fair steps) words image has s printed ran = ran
 ran_made (Shuffle number steps) words image has s printed ran = ran
 
-part_made : (p : Plan) (words : List MessageWord) (image : Image) → HasText p None → (printed : List ℕ) → IsMadePart p words image printed → IsRunPart None p words image printed
-part_made (Schedule file) words image has printed part = absurd has
-part_made (Fair steps) words image has printed part = part
-part_made (Shuffle number steps) words image has printed part = part
-
 -- by a plan that makes the actions
 module _ (p : Plan) (keep : Option (List ℕ)) (words : List MessageWord) (image : Image) (has : HasText p None) (before : StoreSeen) (out out_now : SinkSeen) where
+  made_broke : PrintedPart (RunsMade image words p) out out_now → RunBroke None (run_of p keep words) image before before out out_now
+  made_broke h = record { printed = h.0; part = (h.1.0, h.1.1, ran_made p words image has h.1.0 (h.0 ++ h.1.1) h.1.2); holds = refl; prints = h.2 }
+
   pub stopped_ends : (s : Status) → MadeStopped image words p out out_now s → RunEnds None (run_of p keep words) image before before out out_now s
   stopped_ends (Message fault) h = record { printed = h.0; ran = ran_made p words image has (Message fault) h.0 h.1; holds = written_nothing before.told; prints = h.2 }
-  stopped_ends WriteFailed h = inl (record { printed = h.1.0; failed = h.0; part = part_made p words image has h.1.0 h.1.1; holds = refl; prints = h.1.2 })
-  stopped_ends Memory h = tt
+  stopped_ends WriteFailed h = inl (h.0, made_broke h.1)
+  stopped_ends Memory h = made_broke h
   stopped_ends Done h = absurd h
   stopped_ends Words h = absurd h
   stopped_ends ReadFailed h = absurd h
@@ -81,7 +80,10 @@ module _ (p : Plan) (keep : Option (List ℕ)) (words : List MessageWord) (image
   stopped_ends (ImageRefused fault) h = absurd h
   stopped_ends (BadSchedule line) h = absurd h
   stopped_ends (Step line) h = absurd h
-  stopped_ends NotBuilt h = absurd h
+
+  -- all was put, and the record wasn't written
+  pub whole_made : MadeWhole image words p out out_now → (now : StoreSeen) → now.told ≡ before.told → RunBroke None (run_of p keep words) image before now out out_now
+  whole_made whole now e = record { printed = whole.0; part = (Done, [], ran_made p words image has Done (whole.0 ++ []) (subst (λ (l : List ℕ). RunsMade image words p Done l) (sym (append-nil whole.0)) whole.1)); holds = e; prints = whole.2 }
 
   pub unkept_ends : keep ≡ None → MadeWhole image words p out out_now → RunEnds None (run_of p keep words) image before before out out_now Done
   unkept_ends none h =
@@ -100,7 +102,7 @@ module _ (p : Plan) (keep : Option (List ℕ)) (words : List MessageWord) (image
 
     pub lost_ends : OthersStay name before.told now.told → (s : Status) → WriteRefused before now s → RunEnds None (run_of p keep words) image before now out out_now s
     lost_ends others WriteFailed h = inr (record { printed = whole.0; last = last; failed = h; ran = ran_made p words image has Done whole.0 whole.1; record_is = one_kept; others = others; prints = whole.2 })
-    lost_ends others Memory h = tt
+    lost_ends others Memory h = whole_made whole now (ap (λ (x : StoreSeen). x.told) h)
     lost_ends others Done h = absurd h
     lost_ends others Words h = absurd h
     lost_ends others ReadFailed h = absurd h
@@ -112,7 +114,6 @@ module _ (p : Plan) (keep : Option (List ℕ)) (words : List MessageWord) (image
     lost_ends others (BadSchedule line) h = absurd h
     lost_ends others (Step line) h = absurd h
     lost_ends others (Message fault) h = absurd h
-    lost_ends others NotBuilt h = absurd h
 
     pub record_ends : OthersStay name before.told now.told → (r : Result (Unit {0}) Status) → OnOk r (now.told ≡ option_map (with_file name (recorded made)) before.told) → IfErr r (WriteRefused before now) → RunEnds None (run_of p keep words) image before now out out_now (status_of r)
     record_ends others (Ok done) e h = kept_ends e
@@ -199,35 +200,42 @@ module _ (name : List ℕ) (r : RunWords) (before mid : StoreSeen) (out : SinkSe
             prints = h.prints;
           }
 
+      run_broke : RunBroke schedule r image mid now out out_now → BrokeOff (Run name r) before now out out_now
+      unfolding run_input
+      run_broke h =
+          record {
+            input = run_input bytes schedule;
+            printed = h.printed;
+            written = [];
+            is_input = run_is;
+            none = run_none;
+            part = record { status = h.part.0; rest = h.part.1; later = kept r image h.part.0; finishes = (bytes, image, refl, spells, h.part.2, refl); behind = tt };
+            holds = h.holds ∙ keeps.told ∙ written_nothing before.told;
+            prints = h.prints;
+          }
+
       pub run_ends : (s : Status) → RunEnds schedule r image mid now out out_now s → Ends (Run name r) before now out out_now s
       unfolding run_input
       run_ends Done h = run_answered Done h
       run_ends (BadSchedule line) h = run_answered (BadSchedule line) h
       run_ends (Step line) h = run_answered (Step line) h
       run_ends (Message fault) h = run_answered (Message fault) h
-      run_ends WriteFailed (inl h) = (
-        run_input bytes schedule,
-        run_is,
-        run_none,
-        inl (inr (h.failed, record { printed = h.printed; written = []; is_part = (image, (bytes, refl, spells), h.part, refl); holds = h.holds ∙ keeps.told ∙ written_nothing before.told; prints = h.prints })),
+      run_ends WriteFailed (inl h) = inr (h.0, run_broke h.1)
+      run_ends WriteFailed (inr h) = inl (
+        (subst (λ (n : ℕ). Rose n now.counts.write_faults) keeps.write_faults h.failed.0, sym keeps.reliable ∙ h.failed.1),
+        inr (record {
+          input = run_input bytes schedule;
+          printed = h.printed;
+          written = [];
+          last = h.last;
+          is_input = run_is;
+          none = run_none;
+          part = record { status = Done; rest = []; later = []; finishes = (bytes, image, refl, spells, subst (λ (l : List ℕ). Ran schedule r.plan r.messages image Done l) (sym (append-nil h.printed)) h.ran, sym h.record_is); behind = tt };
+          others = subst (λ (t : Option Files). OthersStay h.last.name t now.told) (keeps.told ∙ written_nothing before.told) h.others;
+          prints = h.prints;
+        }),
       )
-      run_ends WriteFailed (inr h) = (
-        run_input bytes schedule,
-        run_is,
-        run_none,
-        inr (
-          (subst (λ (n : ℕ). Rose n now.counts.write_faults) keeps.write_faults h.failed.0, sym keeps.reliable ∙ h.failed.1),
-          record {
-            printed = h.printed;
-            written = [];
-            last = h.last;
-            finishes = (bytes, image, refl, spells, h.ran, sym h.record_is);
-            others = subst (λ (t : Option Files). OthersStay h.last.name t now.told) (keeps.told ∙ written_nothing before.told) h.others;
-            prints = h.prints;
-          },
-        ),
-      )
-      run_ends Memory h = tt
+      run_ends Memory h = inr (run_broke h)
       run_ends Words h = absurd h
       run_ends ReadFailed h = absurd h
       run_ends Missing h = absurd h
@@ -235,7 +243,6 @@ module _ (name : List ℕ) (r : RunWords) (before mid : StoreSeen) (out : SinkSe
       run_ends (Text fault) h = absurd h
       run_ends (ProgramRefused rule at seen) h = absurd h
       run_ends (ImageRefused fault) h = absurd h
-      run_ends NotBuilt h = absurd h
 
 -- ---- go FILE IMAGE
 
@@ -298,35 +305,46 @@ module _ (file name : List ℕ) (r : RunWords) (before mid : StoreSeen) (out : S
               prints = h.prints;
             }
 
+        not_first : (more : List Written) → first ++ more ≡ [] → ⊥
+        unfolding first
+        not_first more e = absurd (cc)
+
+        go_broke : RunBroke schedule r image wrote now out out_now → BrokeOff (Go file name r) before now out out_now
+        unfolding run_input
+        go_broke h =
+            record {
+              input = run_input text schedule;
+              printed = h.printed;
+              written = first;
+              is_input = go_is;
+              none = go_none;
+              part = record { status = h.part.0; rest = h.part.1; later = kept r image h.part.0; finishes = (image, first, go_compiled, h.part.2, refl); behind = λ e. absurd (not_first [] (append-nil first ∙ e)) };
+              holds = h.holds ∙ go_wrote;
+              prints = h.prints;
+            }
+
         pub go_ends : (s : Status) → RunEnds schedule r image wrote now out out_now s → Ends (Go file name r) before now out out_now s
         unfolding run_input
         go_ends Done h = go_answered Done h
         go_ends (BadSchedule line) h = go_answered (BadSchedule line) h
         go_ends (Step line) h = go_answered (Step line) h
         go_ends (Message fault) h = go_answered (Message fault) h
-        go_ends WriteFailed (inl h) = (
-          run_input text schedule,
-          go_is,
-          go_none,
-          inl (inr (h.failed, record { printed = h.printed; written = first; is_part = (image, go_compiled, h.part); holds = h.holds ∙ go_wrote; prints = h.prints })),
+        go_ends WriteFailed (inl h) = inr (h.0, go_broke h.1)
+        go_ends WriteFailed (inr h) = inl (
+          (subst (λ (n : ℕ). Rose n now.counts.write_faults) keeps.write_faults (rose_from mid.counts.write_faults wrote.counts.write_faults now.counts.write_faults count h.failed.0), sym keeps.reliable ∙ sym reliable ∙ h.failed.1),
+          inr (record {
+            input = run_input text schedule;
+            printed = h.printed;
+            written = first;
+            last = h.last;
+            is_input = go_is;
+            none = go_none;
+            part = record { status = Done; rest = []; later = []; finishes = (image, first, go_compiled, subst (λ (l : List ℕ). Ran schedule r.plan r.messages image Done l) (sym (append-nil h.printed)) h.ran, append-nil (first ++ h.last ∷ []) ∙ ap (λ (l : List Written). first ++ l) (sym h.record_is)); behind = λ e. absurd (not_first (h.last ∷ []) e) };
+            others = subst (λ (t : Option Files). OthersStay h.last.name t now.told) go_wrote h.others;
+            prints = h.prints;
+          }),
         )
-        go_ends WriteFailed (inr h) = (
-          run_input text schedule,
-          go_is,
-          go_none,
-          inr (
-            (subst (λ (n : ℕ). Rose n now.counts.write_faults) keeps.write_faults (rose_from mid.counts.write_faults wrote.counts.write_faults now.counts.write_faults count h.failed.0), sym keeps.reliable ∙ sym reliable ∙ h.failed.1),
-            record {
-              printed = h.printed;
-              written = first;
-              last = h.last;
-              finishes = (image, first, go_compiled, h.ran, ap (λ (l : List Written). first ++ l) (sym h.record_is));
-              others = subst (λ (t : Option Files). OthersStay h.last.name t now.told) go_wrote h.others;
-              prints = h.prints;
-            },
-          ),
-        )
-        go_ends Memory h = tt
+        go_ends Memory h = inr (go_broke h)
         go_ends Words h = absurd h
         go_ends ReadFailed h = absurd h
         go_ends Missing h = absurd h
@@ -334,7 +352,6 @@ module _ (file name : List ℕ) (r : RunWords) (before mid : StoreSeen) (out : S
         go_ends (Text fault) h = absurd h
         go_ends (ProgramRefused rule at seen) h = absurd h
         go_ends (ImageRefused fault) h = absurd h
-        go_ends NotBuilt h = absurd h
 
 -- ---- where nothing is done
 
@@ -354,9 +371,4 @@ spares_same (Run image r) s = others_stay None r.keep s s refl
 spares_same (Go file name r) s = others_stay (Some name) r.keep s s refl
 spares_same (Disasm name) s = refl
 spares_same (Assemble listing name) s = stays name s.told
-spares_same (Gen number name) s = refl
-
--- a command that isn't built yet
-pub gen_ends : (number : ℕ) (name : List ℕ) (before : StoreSeen) (out : SinkSeen) → Ends (Gen number name) before before out out NotBuilt
-gen_ends number name before out =
-    record { input = record { first = None; schedule = None }; printed = []; written = []; is_input = tt; answers = inl (inl refl, refl, refl); holds = written_nothing before.told; prints = told_nothing out.told }
+spares_same (Gen number name) s = stays name s.told

@@ -4,7 +4,7 @@ use Rattle.std.specs.Prelude.{Option, Some}
 use Rattle.redn_outside.specs.Counts.{Rose}
 use Rattle.redn_outside.specs.Seen.{StoreSeen, KeepsFiles}
 use Rattle.redn_top.specs.declared.status.Status.{Status}
-use Rattle.redn_top.specs.declared.status.Status.TheVariants.{Done, Words, Schedule as BadSchedule, ReadFailed, Missing, WriteFailed, Long, Text, Program, Image, Memory, Step, Message, NotBuilt}
+use Rattle.redn_top.specs.declared.status.Status.TheVariants.{Done, Words, Schedule as BadSchedule, ReadFailed, Missing, WriteFailed, Long, Text, Program, Image, Memory, Step, Message}
 use Rattle.redn_top.specs.Reasons.{Reasons, Nil, Or, also, NoneHolds, First, read_reasons}
 use Rattle.redn_top.specs.Refusals.{Refuses, ReadsRefuse, WordsRefused}
 
@@ -28,7 +28,6 @@ module _ (R Q : Reasons) (goes : (s : Status) → First R s → First Q s) where
   refuses_map (Text fault) h = goes (Text fault) h
   refuses_map (Program rule at seen) h = goes (Program rule at seen) h
   refuses_map (Image fault) h = goes (Image fault) h
-  refuses_map NotBuilt h = absurd h
   refuses_map Words h = absurd h
   refuses_map (BadSchedule number) h = absurd h
   refuses_map Done h = absurd h
@@ -45,7 +44,6 @@ module _ (R Q : Reasons) (goes : (s : Status) → First R s → First Q s) where
   words_map (Text fault) h = absurd h
   words_map (Program rule at seen) h = absurd h
   words_map (Image fault) h = absurd h
-  words_map NotBuilt h = absurd h
   words_map Words h = absurd h
   words_map (BadSchedule number) h = absurd h
   words_map Done h = absurd h
@@ -70,7 +68,6 @@ module _ (R Q : Reasons) (goes : (s : Status) → First R s → First Q s) (befo
   reads_map (Text fault) h = absurd h
   reads_map (Program rule at seen) h = absurd h
   reads_map (Image fault) h = absurd h
-  reads_map NotBuilt h = absurd h
   reads_map Words h = absurd h
   reads_map (BadSchedule number) h = absurd h
   reads_map (Step line) h = absurd h
@@ -88,7 +85,6 @@ module _ (R : Reasons) (before mid now : StoreSeen) (keeps : KeepsFiles before m
   reads_later (Text fault) h = absurd h
   reads_later (Program rule at seen) h = absurd h
   reads_later (Image fault) h = absurd h
-  reads_later NotBuilt h = absurd h
   reads_later Words h = absurd h
   reads_later (BadSchedule number) h = absurd h
   reads_later (Step line) h = absurd h

@@ -1,17 +1,20 @@
 pub mod TokenPlaces
 pub mod SourceFaults
 pub mod RunLemmas
-pub mod Printable
 pub mod FirstReason
 pub mod Contents
 pub mod Found
 pub mod MisfitFaults
 pub mod MessageWork
+pub mod AnyRun
 pub mod ImageRuns
 pub mod Ending
 pub mod Endings
+pub mod Generating
 pub mod OneReason
+pub mod Succeeding
 pub mod ListingLines
 pub mod MadeRuns
 pub mod ScheduleRuns
 mod Worked
+mod WorkedParts

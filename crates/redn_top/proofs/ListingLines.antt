@@ -6,7 +6,7 @@ use Rattle.std.proofs.lemmas.List.{take-append-drop}
 use Rattle.redn_outside.specs.Seen.{SinkSeen}
 use Rattle.redn_disasm.specs.Assembly.{lines_after, lines_of}
 use Rattle.redn_top.specs.declared.status.Status.{Status}
-use Rattle.redn_top.specs.declared.status.Status.TheVariants.{Done, Words, Schedule as BadSchedule, ReadFailed, Missing, WriteFailed, Long, Text, Program, Image, Memory, Step, Message, NotBuilt}
+use Rattle.redn_top.specs.declared.status.Status.TheVariants.{Done, Words, Schedule as BadSchedule, ReadFailed, Missing, WriteFailed, Long, Text, Program, Image, Memory, Step, Message}
 use Rattle.redn_top.specs.Refusals.{FaultsStay, LinesRefused, PutRefused}
 use Rattle.redn_top.proofs.RunLemmas.{failed_later}
 
@@ -52,6 +52,5 @@ module _ (text done rest line behind : List ℕ) (whole : text ≡ done ++ rest)
   lines_cut (Image fault) h = absurd h
   lines_cut (Step number) h = absurd h
   lines_cut (Message fault) h = absurd h
-  lines_cut NotBuilt h = absurd h
   lines_cut Words h = absurd h
   lines_cut (BadSchedule number) h = absurd h

@@ -17,9 +17,9 @@ use Rattle.redn_top.specs.declared.run.Maker.{Maker}
 use Rattle.redn_top.specs.declared.run.Maker.TheVariants as maker
 use Rattle.redn_top.specs.Makers.{made_from, IsFor}
 use Rattle.redn_top.specs.declared.status.Status.{Status}
-use Rattle.redn_top.specs.declared.status.Status.TheVariants.{Done, Words, Schedule as BadSchedule, ReadFailed, Missing, WriteFailed, Long, Text, Program, Image, Memory, Step, Message, NotBuilt}
+use Rattle.redn_top.specs.declared.status.Status.TheVariants.{Done, Words, Schedule as BadSchedule, ReadFailed, Missing, WriteFailed, Long, Text, Program, Image, Memory, Step, Message}
 use Rattle.redn_top.specs.RunText.{events_text, made_end, made_text}
-use Rattle.redn_top.specs.Refusals.{MadeRefused, FaultsStay, PutRefused}
+use Rattle.redn_top.specs.Refusals.{MadePart, MadeRefused, FaultsStay, PutRefused}
 use Rattle.redn_top.proofs.RunLemmas.{Ran, Stepped, ran_none, ran_more, events_text-append, events_text-push, option_map-twice, failed_later}
 
 -- after k of the steps: the actions made so far, those that follow, what makes them, and those that are kept
@@ -70,6 +70,17 @@ module _ (first : Running) (steps : ℕ) (acts : List Action) (k : ℕ) (inside 
       let fewer : (length acts == steps) ≡ false = (let l : length acts ≡ k = ap length is ∙ made.count in grind (arith, nat_tests)) in
       (is, ap (λ v. cond v (codes "end steps\n") (codes "end quiet\n")) fewer)
 
+  -- memory was wanting before the next step
+  pub made_short : (out out_now : SinkSeen) → out.told ≡ before → out_now.told ≡ told → MadePart first.state steps acts out out_now
+  made_short out out_now eb et =
+      let events = events_text first.state made.done in
+      let more = made_from (steps - k) now.state making in
+      let rest = events_text (reached first.state made.done) more ++ made_end steps acts in
+      let texts : made_text first.state steps acts ≡ events ++ rest =
+      ap (λ l. events_text first.state l ++ made_end steps acts) made.all
+      ∙ ap (λ l. l ++ made_end steps acts) (events_text-append first.state made.done more) ∙ append_assoc events (events_text (reached first.state made.done) more) (made_end steps acts) in
+      (events, rest, texts, et ∙ made.ran.text ∙ ap (option_map (λ text. text ++ events)) (sym eb))
+
   -- the put of an event's line failed
   pub made_broken : (a : Action) (o : Obs) (next : Running) (later : Maker) (out mid out_now : SinkSeen) → out.told ≡ before → mid.told ≡ told → FaultsStay out mid → Stepped now a o next →
       ((n : ℕ) → made_from (suc n) now.state making ≡ a ∷ made_from n (after now.state a) later) → (s : Status) → PutRefused (event_text o) mid out_now s → MadeRefused first.state steps acts out out_now s
@@ -99,7 +110,6 @@ module _ (first : Running) (steps : ℕ) (acts : List Action) (k : ℕ) (inside 
   made_broken a o next later out mid out_now eb et stays s list (Image fault) h = absurd h
   made_broken a o next later out mid out_now eb et stays s list (Step number) h = absurd h
   made_broken a o next later out mid out_now eb et stays s list (Message fault) h = absurd h
-  made_broken a o next later out mid out_now eb et stays s list NotBuilt h = absurd h
   made_broken a o next later out mid out_now eb et stays s list Words h = absurd h
   made_broken a o next later out mid out_now eb et stays s list (BadSchedule number) h = absurd h
 
@@ -140,7 +150,6 @@ module _ (first : Running) (steps : ℕ) (acts done : List Action) (line : List 
   made_unput stays (Image fault) h = absurd h
   made_unput stays (Step number) h = absurd h
   made_unput stays (Message fault) h = absurd h
-  made_unput stays NotBuilt h = absurd h
   made_unput stays Words h = absurd h
   made_unput stays (BadSchedule number) h = absurd h
 

@@ -9,7 +9,7 @@ use Rattle.std.proofs.lemmas.List.FromFn.{get_or-map-range_with_len, length-map-
 use Rattle.hex.specs.Hex.{decode_of}
 use Rattle.redn_top.specs.declared.status.MessageFault.{MessageFault}
 use Rattle.redn_top.specs.declared.status.MessageFault.TheVariants.{NoChain, Twice}
-use Rattle.redn_top.specs.declared.status.Status.TheVariants.{Done, Words, Schedule as BadSchedule, ReadFailed, Missing, WriteFailed, Long, Text, Program, Image, Memory, Step, Message, NotBuilt}
+use Rattle.redn_top.specs.declared.status.Status.TheVariants.{Done, Words, Schedule as BadSchedule, ReadFailed, Missing, WriteFailed, Long, Text, Program, Image, Memory, Step, Message}
 use Rattle.redn_top.specs.declared.status.Status.{Status}
 use Rattle.redn_command.specs.declared.command.MessageWord.{MessageWord as MessageView}
 use Rattle.redn_command.specs.Words.{MessageWord, message_view}
@@ -158,7 +158,6 @@ module _ (chains : ℕ) (views : List MessageView) (k : ℕ) (v : MessageView) (
   digits_refused (Program rule at seen) h = absurd h
   digits_refused (Image fault) h = absurd h
   digits_refused (Step line) h = absurd h
-  digits_refused NotBuilt h = absurd h
   digits_refused Words h = absurd h
   digits_refused (BadSchedule number) h = absurd h
 

@@ -6,13 +6,13 @@ use Rattle.redn_outside.specs.Seen.{StoreSeen, SinkSeen}
 use Rattle.redn_image.specs.Rules.{Image}
 use Rattle.redn_top.specs.declared.limits.TheConstants.{FILE_LIMIT, IMAGE_LIMIT, LISTING_LIMIT, SCHEDULE_LIMIT}
 use Rattle.redn_top.specs.declared.status.Status.{Status}
-use Rattle.redn_top.specs.declared.status.Status.TheVariants.{Done, Words, Schedule as BadSchedule, ReadFailed, Missing, WriteFailed, Long, Text, Program as ProgramRefused, Image as ImageRefused, Memory, Step, Message, NotBuilt}
+use Rattle.redn_top.specs.declared.status.Status.TheVariants.{Done, Words, Schedule as BadSchedule, ReadFailed, Missing, WriteFailed, Long, Text, Program as ProgramRefused, Image as ImageRefused, Memory, Step, Message}
 use Rattle.redn_top.specs.StatusText.{code_of}
 use Rattle.redn_command.specs.declared.limits.TheConstants.{MOST_STEPS}
 use Rattle.redn_command.specs.Words.{Command, Check, Compile, Run, Go, Disasm, Assemble, Gen, Plan, Schedule, Fair, Shuffle, MessageWord, Line, most_steps, GivesPlan, IsCommand}
 use Rattle.redn_top.specs.Refusals.{IsRunnable, CanRun}
 use Rattle.redn_top.specs.Reasons.{Input, IsInput, IsPlanInput, plan_reads, run_reads, Reasons, Nil, Or, also, NoneHolds, First, missing, too_long, no_tree, no_program, no_image, wrong_line, broken_rows, read_reasons, source_reasons, image_reasons, listing_reasons, reasons}
-use Rattle.redn_top.specs.Answers.{Written, Ran, RunsMade, MadeMessages, MadeEnd, RunsImage, BadMessages, ToEnd, Stops, Meets, Finishes, Answered, Ends, IfSpoken, IsRunEnd, IsFinish, IsFinishOrWant, NoneFailed}
+use Rattle.redn_top.specs.Answers.{Written, Ran, RunsMade, MadeMessages, MadeEnd, RunsImage, BadMessages, ToEnd, Stops, Meets, Finishes, Answered, Ends, IfRead, IfSpoken, IsRunEnd, IsFinish, IsFinishOrWant, NoneFailed}
 
 -- ---- words
 
@@ -52,7 +52,7 @@ one_code (Or P rest) (coded, more) s t (inl h) (inr (never, k)) = absurd (never 
 one_code (Or P rest) (coded, more) s t (inr (never, h)) (inl k) = absurd (never t k)
 one_code (Or P rest) (coded, more) s t (inr (never, h)) (inr (also_never, k)) = one_code rest more s t h k
 
-none_first : (R : Reasons) → NoneHolds R → (s : Status) → First R s → ⊥
+pub none_first : (R : Reasons) → NoneHolds R → (s : Status) → First R s → ⊥
 none_first Nil none s h = h
 none_first (Or P rest) (never, none) s (inl h) = never s h
 none_first (Or P rest) (never, none) s (inr (also_never, h)) = none_first rest none s h
@@ -98,7 +98,7 @@ reasons_coded (Run image r) i = both_coded (run_reads i.first IMAGE_LIMIT r.plan
 reasons_coded (Disasm image) i = (missing_coded i.first, (long_coded i.first IMAGE_LIMIT, (image_coded i.first, tt)))
 reasons_coded (Assemble listing image) i = (missing_coded i.first, (long_coded i.first LISTING_LIMIT, (wrong_line_coded i.first, (rows_coded i.first, tt))))
 reasons_coded (Go file image r) i = both_coded (run_reads i.first FILE_LIMIT r.plan i.schedule) (source_reasons i.first) (reads_coded i.first FILE_LIMIT r.plan i.schedule) (tree_coded i.first, (program_coded i.first, tt))
-reasons_coded (Gen number image) i = ((λ s t h k. by_code 13 s t (ap code_of h) (ap code_of k)), tt)
+reasons_coded (Gen number image) i = tt
 
 same_plan : (files : Files) (p : Plan) (found other : Option (List ℕ)) → IsPlanInput (Some files) p found → IsPlanInput (Some files) p other → (P : Reasons → Type 0) → P (plan_reads p found) → P (plan_reads p other)
 same_plan files (Schedule file) found other a b P h = subst (λ (f : Option (List ℕ)). P (read_reasons f SCHEDULE_LIMIT)) (sym a ∙ b) h
@@ -106,7 +106,7 @@ same_plan files (Fair steps) found other a b P h = h
 same_plan files (Shuffle number steps) found other a b P h = h
 
 -- where the store tells, reasons are those of what it holds
-same_reasons : (files : Files) (c : Command) (i j : Input) → IsInput (Some files) c i → IsInput (Some files) c j → (P : Reasons → Type 0) → P (reasons c i) → P (reasons c j)
+pub same_reasons : (files : Files) (c : Command) (i j : Input) → IsInput (Some files) c i → IsInput (Some files) c j → (P : Reasons → Type 0) → P (reasons c i) → P (reasons c j)
 same_reasons files (Check file) i j a b P h = subst (λ (f : Option (List ℕ)). P (also (read_reasons f FILE_LIMIT) (source_reasons f))) (sym a ∙ b) h
 same_reasons files (Compile file image) i j a b P h = subst (λ (f : Option (List ℕ)). P (also (read_reasons f FILE_LIMIT) (source_reasons f))) (sym a ∙ b) h
 same_reasons files (Run image r) i j a b P h =
@@ -147,7 +147,7 @@ finishes (Run image r) i s printed written h = plan_end i.schedule r.plan r.mess
 finishes (Disasm image) i s printed written h = h.1
 finishes (Assemble listing image) i s printed written h = h.1
 finishes (Go file image r) i s printed written h = plan_end i.schedule r.plan r.messages h.0 s printed h.3
-finishes (Gen number image) i s printed written h = absurd h
+finishes (Gen number image) i s printed written h = h.1
 
 module _ (c : Command) (before now : StoreSeen) (out out_now : SinkSeen) (files : Files) (told : before.told ≡ Some files) (i : Input) (is : IsInput (Some files) c i) where
   answered_code : (s t : Status) → First (reasons c i) s → Answered c before now out out_now t → code_of t ≡ code_of s
@@ -166,9 +166,18 @@ module _ (c : Command) (before now : StoreSeen) (out out_now : SinkSeen) (files 
         | inr x ↦ finishes c a.input t a.printed a.written x.1
       ]
 
-  pub demands_so : (s t : Status) → First (reasons c i) s → Ends c before now out out_now t → IfSpoken t (code_of t ≡ code_of s)
+  -- nothing is written where a reason holds
+  none_for : (s : Status) → First (reasons c i) s → (j : Input) → IsInput before.told c j → NoneHolds (reasons c j) → ⊥
+  none_for s h j its none = none_first (reasons c i) (same_reasons files c j i (subst (λ (f : Option Files). IsInput f c j) told its) is NoneHolds none) s h
+
+  not_written : (s : Status) → First (reasons c i) s → Ends c before now out out_now WriteFailed → ⊥
+  not_written s h (inl (failed, inl e)) = none_for s h e.input e.is_input e.none
+  not_written s h (inl (failed, inr e)) = none_for s h e.input e.is_input e.none
+  not_written s h (inr (failed, e)) = none_for s h e.input e.is_input e.none
+
+  pub demands_so : (s t : Status) → First (reasons c i) s → Ends c before now out out_now t → IfRead t (code_of t ≡ code_of s)
   demands_so s ReadFailed h e = tt
-  demands_so s WriteFailed h e = tt
+  demands_so s WriteFailed h e = absurd (not_written s h e)
   demands_so s Memory h e = tt
   demands_so s Missing h e = answered_code s Missing h e.1
   demands_so s (Long seen limit) h e = answered_code s (Long seen limit) h e.1
@@ -178,7 +187,6 @@ module _ (c : Command) (before now : StoreSeen) (out out_now : SinkSeen) (files 
   demands_so s (ImageRefused fault) h e = answered_code s (ImageRefused fault) h e
   demands_so s (Step line) h e = answered_code s (Step line) h e
   demands_so s (Message fault) h e = answered_code s (Message fault) h e
-  demands_so s NotBuilt h e = answered_code s NotBuilt h e
   demands_so s Words h e = answered_code s Words h e
   demands_so s (BadSchedule number) h e = answered_code s (BadSchedule number) h e
 
@@ -194,15 +202,13 @@ module _ (c : Command) (before now : StoreSeen) (out out_now : SinkSeen) (files 
   works_so (ImageRefused fault) none e = answered_finish (ImageRefused fault) none e
   works_so (Step line) none e = answered_finish (Step line) none e
   works_so (Message fault) none e = answered_finish (Message fault) none e
-  works_so NotBuilt none e = answered_finish NotBuilt none e
   works_so Words none e = answered_finish Words none e
   works_so (BadSchedule number) none e = answered_finish (BadSchedule number) none e
 
   pub completes_so : (t : Status) → NoneHolds (reasons c i) → NoneFailed before now out out_now → Ends c before now out out_now t → IsFinishOrWant c t
   completes_so ReadFailed none calm e = absurd (calm.reads e.0.0)
-  completes_so WriteFailed none calm (j, its, n, inl (inl e)) = absurd (calm.writes e.0.0)
-  completes_so WriteFailed none calm (j, its, n, inl (inr e)) = absurd (calm.puts e.0.0)
-  completes_so WriteFailed none calm (j, its, n, inr e) = absurd (calm.writes e.0.0)
+  completes_so WriteFailed none calm (inl e) = absurd (calm.writes e.0.0)
+  completes_so WriteFailed none calm (inr e) = absurd (calm.puts e.0.0)
   completes_so Memory none calm e = inr refl
   completes_so Missing none calm e = inl (answered_finish Missing none e.1)
   completes_so (Long seen limit) none calm e = inl (answered_finish (Long seen limit) none e.1)
@@ -212,6 +218,5 @@ module _ (c : Command) (before now : StoreSeen) (out out_now : SinkSeen) (files 
   completes_so (ImageRefused fault) none calm e = inl (answered_finish (ImageRefused fault) none e)
   completes_so (Step line) none calm e = inl (answered_finish (Step line) none e)
   completes_so (Message fault) none calm e = inl (answered_finish (Message fault) none e)
-  completes_so NotBuilt none calm e = inl (answered_finish NotBuilt none e)
   completes_so Words none calm e = inl (answered_finish Words none e)
   completes_so (BadSchedule number) none calm e = inl (answered_finish (BadSchedule number) none e)

@@ -18,7 +18,7 @@ use Rattle.redn_sched.specs.declared.reader.Got.TheVariants.{More, Action as AnA
 use Rattle.redn_sched.specs.ScheduleText.{lines_of, lines_after, Reads, Begins}
 use Rattle.redn_sched.specs.Pieces.{Reader, first_reader, StillReads, StillBegins, ReadsOn, BeginsOn, actions_got, bad_got, Takes, FedBy, IsFed}
 use Rattle.redn_top.specs.declared.status.Status.{Status}
-use Rattle.redn_top.specs.declared.status.Status.TheVariants.{Done, Words, Schedule as BadSchedule, ReadFailed, Missing, WriteFailed, Long, Text, Program, Image, Memory, Step, Message, NotBuilt}
+use Rattle.redn_top.specs.declared.status.Status.TheVariants.{Done, Words, Schedule as BadSchedule, ReadFailed, Missing, WriteFailed, Long, Text, Program, Image, Memory, Step, Message}
 use Rattle.redn_top.specs.RunText.{actions_of, events_text}
 use Rattle.redn_top.specs.Refusals.{FaultsStay, RunRefused}
 use Rattle.redn_top.specs.Makers.{Makes, RanAll, StepRefused}
@@ -39,7 +39,7 @@ makes_one r n a o next told now s text e =
 
 -- ---- the lines so far
 
-actions_both : (xs ys : List Numbered) → actions_of (xs ++ ys) ≡ actions_of xs ++ actions_of ys
+pub actions_both : (xs ys : List Numbered) → actions_of (xs ++ ys) ≡ actions_of xs ++ actions_of ys
 actions_both xs ys = map-append (λ (x : Numbered). x.action) xs ys
 
 pub record ReadSoFar (first : Running) (text rest : List ℕ) (reader : Reader) (now : Running) (before told : Option (List ℕ)) : Type 0 where
@@ -213,7 +213,6 @@ module _ (first now : Running) (text : List ℕ) (done : List Numbered) (out mid
   step_ends (AnAction n a) b r (Image fault) h = absurd h
   step_ends (AnAction n a) b r Memory h = absurd h
   step_ends (AnAction n a) b r (Message fault) h = absurd h
-  step_ends (AnAction n a) b r NotBuilt h = absurd h
   step_ends (Bad n) b r Done h = absurd h
   step_ends (Bad n) b r Words h = absurd h
   step_ends (Bad n) b r ReadFailed h = absurd h
@@ -224,7 +223,6 @@ module _ (first now : Running) (text : List ℕ) (done : List Numbered) (out mid
   step_ends (Bad n) b r (Image fault) h = absurd h
   step_ends (Bad n) b r Memory h = absurd h
   step_ends (Bad n) b r (Message fault) h = absurd h
-  step_ends (Bad n) b r NotBuilt h = absurd h
 
 -- ---- its end
 

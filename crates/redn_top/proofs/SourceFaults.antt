@@ -1,12 +1,12 @@
 -- Why a text has no tree, or no program.
-use Rattle.std.proofs.Common.{◌≡◌, ℕ, ◌≤◌, List, length, sym, ap, subst, ◌∙◌}
+use Rattle.std.proofs.Common.{◌≡◌, ℕ, List, sym, ap, subst, ◌∙◌}
 use Rattle.redn_syntax.specs.declared.token.Token.{Token}
 use Rattle.redn_syntax.specs.declared.tree.File.{File}
 use Rattle.redn_syntax.specs.Tokens.{Tokenizes}
-use Rattle.redn_syntax.specs.Grammar.{HasTree, HasTreeWithin, IsWritable}
+use Rattle.redn_syntax.specs.Grammar.{HasTreeWithin, IsWritable}
 use Rattle.redn_syntax.proofs.Aside.{writable}
 use Rattle.redn_lex.specs.Faults.{IsBadByte, IsTooWide}
-use Rattle.redn_parse.specs.Depth.{OpensDeep}
+use Rattle.redn_parse.specs.Answers.{IsUnexpected, IsTooDeep}
 use Rattle.redn_parse.specs.declared.fault.ParseFault.TheVariants.{Deep, Memory as NoMemory}
 use Rattle.redn_kernel.specs.declared.types.Program.{Program}
 use Rattle.redn_check.specs.Faults.{fault, IsFirst}
@@ -14,7 +14,7 @@ use Rattle.redn_check.specs.Rules.{Accepts, faults}
 use Rattle.redn_check.specs.Numbering.{program_of}
 use Rattle.redn_top.specs.declared.status.TextFault.TheVariants.{Byte, Nesting}
 use Rattle.redn_top.specs.declared.status.Status.{Status}
-use Rattle.redn_top.specs.declared.status.Status.TheVariants.{Done, Words, Schedule as BadSchedule, ReadFailed, Missing, WriteFailed, Long, Text, Program as ProgramRefused, Memory, Step, NotBuilt, Image as ImageRefused, Message}
+use Rattle.redn_top.specs.declared.status.Status.TheVariants.{Done, Words, Schedule as BadSchedule, ReadFailed, Missing, WriteFailed, Long, Text, Program as ProgramRefused, Memory, Step, Image as ImageRefused, Message}
 use Rattle.redn_top.specs.Refusals.{SourceRefused}
 use Rattle.redn_top.specs.Refusals.{TreeRefused, RulesRefused}
 use Rattle.redn_top.specs.Sources.{IsTextOf, Means, NoToken, WideNumber, NoFile, TooDeep, TextRefused, RuleBroken, token_place}
@@ -33,11 +33,11 @@ module _ (text : List ℕ) where
     its_tree : (f : File) → IsTextOf text f → HasTreeWithin 64 text tokens f
     its_tree f r = subst (λ (l : List Token). HasTreeWithin 64 text l f) (sym (only r.tokens r.tokenized)) r.tree
 
-    pub no_file : (n place : ℕ) → place ≡ token_place text tokens n → n ≤ length tokens → ((f : File) → ¬ HasTree text tokens f) → TextRefused text (Byte place)
-    no_file n place e within none =
-        subst (λ (m : ℕ). TextRefused text (Byte m)) (sym e) (record { why = NoFile tokens n tokenized within none; none = λ f r. none f (64, its_tree f r) })
+    pub no_file : (n place : ℕ) → place ≡ token_place text tokens n → IsUnexpected text tokens n → TextRefused text (Byte place)
+    no_file n place e h =
+        subst (λ (m : ℕ). TextRefused text (Byte m)) (sym e) (record { why = NoFile tokens n tokenized h; none = λ f r. h.none f (64, its_tree f r) })
 
-    pub too_deep : (at place : ℕ) → place ≡ at → OpensDeep text tokens at → ((f : File) → ¬ HasTreeWithin 64 text tokens f) → TextRefused text (Nesting place)
+    pub too_deep : (at place : ℕ) → place ≡ at → IsTooDeep text tokens at → ((f : File) → ¬ HasTreeWithin 64 text tokens f) → TextRefused text (Nesting place)
     too_deep at place e deep none =
         subst (λ (m : ℕ). TextRefused text (Nesting m)) (sym e) (record { why = TooDeep tokens at tokenized deep; none = λ f r. none f (its_tree f r) })
 
@@ -66,7 +66,6 @@ module _ (text : List ℕ) where
     rules_refused ReadFailed h = absurd h
     rules_refused Missing h = absurd h
     rules_refused WriteFailed h = absurd h
-    rules_refused NotBuilt h = absurd h
     rules_refused Words h = absurd h
     rules_refused (BadSchedule number) h = absurd h
     rules_refused (ImageRefused fault) h = absurd h
@@ -82,7 +81,6 @@ tree_refused text Done h = absurd h
 tree_refused text ReadFailed h = absurd h
 tree_refused text Missing h = absurd h
 tree_refused text WriteFailed h = absurd h
-tree_refused text NotBuilt h = absurd h
 tree_refused text Words h = absurd h
 tree_refused text (BadSchedule number) h = absurd h
 tree_refused text (ImageRefused fault) h = absurd h

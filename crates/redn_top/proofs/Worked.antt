@@ -21,13 +21,14 @@ use Rattle.redn_syntax.specs.declared.token.TokenKind.TheVariants.{Name}
 use Rattle.redn_top.specs.declared.status.TextFault.TheVariants.{Byte, Nesting}
 use Rattle.redn_top.specs.declared.status.ImageFault.TheVariants.{Magic, Version, Rule}
 use Rattle.redn_top.specs.declared.status.MessageFault.TheVariants.{NoChain, Twice, BadHex, Length}
-use Rattle.redn_top.specs.declared.status.Status.TheVariants.{Words, Schedule as BadSchedule, Step, Missing, Long, Text, Program as ProgramRefused, Image, Message}
+use Rattle.redn_top.specs.declared.status.Status.TheVariants.{Done, Words, Schedule as BadSchedule, Step, Missing, Long, Text, Program as ProgramRefused, Image, Message}
 use Rattle.redn_top.specs.StatusText.{code_of, status_text}
-use Rattle.redn_command.specs.Words.{Command, Run, Schedule, MessageWord}
+use Rattle.redn_command.specs.Words.{Command, Run, Gen, Schedule, MessageWord}
 use Rattle.redn_top.specs.MessageWords.{messages, word_faults, length_faults}
 use Rattle.redn_top.specs.Reasons.{Input, IsInput, First, reasons}
 use Rattle.redn_top.specs.Sources.{token_place}
-use Rattle.redn_top.specs.RunText.{IsCut, StopsAt, RunsToEnd, made_end}
+use Rattle.redn_top.specs.Answers.{IsPartBy, IsBehindImage, GoodSchedule}
+use Rattle.redn_top.specs.RunText.{BreaksOff, StopsAt, RunsToEnd, made_end}
 
 codes_of : (code_of (Step 7) ≡ 11) × (code_of Missing ≡ 16) × (code_of (Long 5 4) ≡ 5) × (code_of (Text (Byte 2)) ≡ 6) × (code_of (ProgramRefused 7 10 0) ≡ 7) × (code_of (Image Magic) ≡ 8) × (code_of (Message (Twice 0)) ≡ 12) × (code_of Words ≡ 2) × (code_of (BadSchedule 3) ≡ 10)
 codes_of = (refl, refl, refl, refl, refl, refl, refl, refl, refl)
@@ -143,7 +144,19 @@ a_message_alone = record { lines = at 3 (Deliver 0) ∷ []; reads = alone_reads;
 made_ends : (made_end 1 (Deliver 0 ∷ []) ≡ codes "end steps\n") × (made_end 2 (Deliver 0 ∷ []) ≡ codes "end quiet\n")
 made_ends = (refl, refl)
 
--- the first put failed behind five bytes of the end line
-half_an_end : IsCut first alone (codes "end s")
-unfolding first at no_queues spelled start possible after shown event_text
-half_an_end = inr (record { lines = at 3 (Deliver 0) ∷ []; part = 5; reads = alone_reads; all_possible = (refl, tt); prints = refl })
+-- half an end line is a part of what is printed
+half_an_end : IsPartBy (λ s printed. RunsToEnd first alone printed) (codes "end s")
+half_an_end = (Done, codes "chedule\n", a_message_alone)
+
+-- the put of a line that shows nothing
+nothing_put : BreaksOff first alone []
+unfolding first at no_queues alone action_text digits spelled start possible after shown event_text
+nothing_put = record { before = []; here = at 3 (Deliver 0); part = 3; begins = inr (tt, inr (tt, inl (record { text = refl; fits = lit< tt }, refl, tt))); all_possible = (refl, tt); prints = refl }
+
+-- its one line is good and possible
+a_good_schedule : GoodSchedule (Some alone) (Schedule (codes "s")) first
+a_good_schedule = (alone, codes "end schedule\n", refl, a_message_alone)
+
+-- a command that writes nothing before it prints
+behind_no_image : IsBehindImage (Gen 5 (codes "g")) (codes "gen 5\n") [] → ⊥
+behind_no_image h = absurd (let e = h refl in cc)

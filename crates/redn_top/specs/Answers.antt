@@ -1,11 +1,11 @@
 -- What a command answers, prints and writes, by what it finds.
-use Rattle.std.specs.Prelude.{◌≡◌, ◌⊎◌, ℕ, List, [], ◌∷◌, ◌++◌, length, take, Option, Some, None, Result, Ok, Err}
+use Rattle.std.specs.Prelude.{◌≡◌, ◌⊎◌, ℕ, List, [], ◌∷◌, ◌++◌, length, Option, Some, None, Result, Ok, Err}
 use Rattle.std.specs.Option.{option_map}
 use Rattle.redn_syntax.specs.declared.tree.File.{File}
 use Rattle.redn_syntax.specs.Canonical.{canonical_text}
 use Rattle.redn_kernel.specs.declared.types.Program.{Program}
 use Rattle.redn_check.specs.Rules.{Accepts}
-use Rattle.redn_outside.specs.Files.{Files, with_file, OthersStay}
+use Rattle.redn_outside.specs.Files.{Files, file_at, with_file, OthersStay}
 use Rattle.redn_outside.specs.Counts.{Rose}
 use Rattle.redn_outside.specs.Seen.{StoreSeen, SinkSeen, ReadFailed, WriteFailed, PutFailed, MissingRose, LongRose}
 use Rattle.redn_disasm.specs.Assembly.{Assembles, Made}
@@ -21,7 +21,8 @@ use Rattle.redn_command.specs.Words.{Command, Check, Compile, Run, Go, Disasm, A
 use Rattle.redn_top.specs.MessageWords.{messages}
 use Rattle.redn_top.specs.Reasons.{Input, IsInput, NoneHolds, First, reasons, message_reasons}
 use Rattle.redn_top.specs.Sources.{IsTextOf, Means}
-use Rattle.redn_top.specs.RunText.{IsCut, RunsToEnd, MeetsBad, StopsAt, planned, steps_asked, made_text}
+use Rattle.redn_top.specs.RunText.{RunsToEnd, MeetsBad, StopsAt, planned, steps_asked, made_text}
+use Rattle.redn_summary.specs.Summary.{generated_program, summary}
 
 -- a file that is written: its name and its bytes
 pub record Written : Type 0 where
@@ -103,21 +104,23 @@ Ran schedule (Schedule file) words image s printed = RanSchedule schedule words 
 Ran schedule (Fair steps) words image s printed = RunsMade image words (Fair steps) s printed
 Ran schedule (Shuffle number steps) words image s printed = RunsMade image words (Shuffle number steps) s printed
 
--- a part of what is printed by a plan that makes the actions
-abbrev pub IsMadePart : Plan → List MessageWord → Image → List ℕ → Type 0
-IsMadePart plan words image printed =
-    NoneHolds (message_reasons image words) × ((rest : List ℕ) × (made_text (opened image words) (steps_asked plan) (planned plan (opened image words)) ≡ printed ++ rest))
-
--- a part of what such a run prints
-abbrev pub IsRunPart : Option (List ℕ) → Plan → List MessageWord → Image → List ℕ → Type 0
-IsRunPart schedule (Schedule file) words image printed = (text : List ℕ) × (schedule ≡ Some text) × NoneHolds (message_reasons image words) × IsCut (opened image words) text printed
-IsRunPart schedule (Fair steps) words image printed = IsMadePart (Fair steps) words image printed
-IsRunPart schedule (Shuffle number steps) words image printed = IsMadePart (Shuffle number steps) words image printed
+-- a part of what is printed by something that prints so with its status
+abbrev pub IsPartBy : (Status → List ℕ → Type 0) → List ℕ → Type 0
+IsPartBy Prints printed = (s : Status) × (rest : List ℕ) × Prints s (printed ++ rest)
 
 -- after all steps the record of them is written, where it is asked for
 abbrev pub kept : RunWords → Image → Status → List Written
 kept r image status.Done = kept_under r.keep (recorded (planned r.plan (opened image r.messages)))
 kept r image _ = []
+
+-- the bytes written under a name spell an image that is faithful to the generated program, and the summary on it is printed
+pub record Generated (number : ℕ) (name : List ℕ) (printed : List ℕ) (written : List Written) : Type 0 where
+  pub image : Image
+  pub bytes : List ℕ
+  pub spells : Spells bytes image
+  pub faithful : Faithful (generated_program number) image
+  pub prints : printed ≡ summary number image
+  pub writes : written ≡ record { name = name; bytes = bytes } ∷ []
 
 abbrev pub Finishes : Command → Input → Status → List ℕ → List Written → Type 0
 Finishes (Check file) i s printed written = Checked i s printed written
@@ -126,7 +129,7 @@ Finishes (Run name r) i s printed written = (bytes : List ℕ) × (image : Image
 Finishes (Disasm name) i s printed written = Listed i printed × (s ≡ status.Done) × (written ≡ [])
 Finishes (Assemble listing name) i s printed written = Assembled i name written × (s ≡ status.Done) × (printed ≡ [])
 Finishes (Go file name r) i s printed written = (image : Image) × (first : List Written) × Compiled i name image first × Ran i.schedule r.plan r.messages image s printed × (written ≡ first ++ kept r image s)
-Finishes (Gen number name) i s printed written = ⊥
+Finishes (Gen number name) i s printed written = Generated number name printed written × (s ≡ status.Done)
 
 -- the first reason that holds is told and nothing else is done, or no reason holds and the command does its work
 abbrev pub Answers : Command → Input → Status → List ℕ → List Written → Type 0
@@ -154,38 +157,55 @@ pub record Stayed (before now : StoreSeen) (out out_now : SinkSeen) : Type 0 whe
   pub holds : now.told ≡ before.told
   pub prints : out_now.told ≡ out.told
 
--- of what a command prints where no reason holds, this was printed before a put failed
-abbrev pub IsPart : Command → Input → List ℕ → List Written → Type 0
-IsPart (Check file) i printed written = (whole : List ℕ) × (part : ℕ) × Checked i status.Done whole written × (printed ≡ take part whole)
-IsPart (Compile file name) i printed written = ⊥
-IsPart (Run name r) i printed written = (image : Image) × ((bytes : List ℕ) × (i.first ≡ Some bytes) × Spells bytes image) × IsRunPart i.schedule r.plan r.messages image printed × (written ≡ [])
-IsPart (Disasm name) i printed written = (rest : List ℕ) × Listed i (printed ++ rest) × (written ≡ [])
-IsPart (Assemble listing name) i printed written = ⊥
-IsPart (Go file name r) i printed written = (image : Image) × Compiled i name image written × IsRunPart i.schedule r.plan r.messages image printed
-IsPart (Gen number name) i printed written = ⊥
+-- a command that writes an image and runs it prints nothing before
+abbrev pub IsBehindImage : Command → List ℕ → List Written → Type 0
+IsBehindImage (Go file name r) printed written = written ≡ [] → printed ≡ []
+IsBehindImage (Gen number name) printed written = written ≡ [] → printed ≡ []
+IsBehindImage _ printed written = Unit {0}
 
--- a put failed: as far as it is told, nothing was printed behind it
-pub record BrokeOff (c : Command) (i : Input) (before now : StoreSeen) (out out_now : SinkSeen) : Type 0 where
+-- of all that a command may print and write where no reason holds, this is a first part
+pub record IsPart (c : Command) (i : Input) (printed : List ℕ) (written : List Written) : Type 0 where
+  pub status : Status
+  pub rest : List ℕ
+  pub later : List Written
+  pub finishes : Finishes c i status (printed ++ rest) (written ++ later)
+  pub behind : IsBehindImage c printed written
+
+-- no reason holds, and of the command's work a first part was done, as far as it is told
+pub record BrokeOff (c : Command) (before now : StoreSeen) (out out_now : SinkSeen) : Type 0 where
+  pub input : Input
   pub printed : List ℕ
   pub written : List Written
-  pub is_part : IsPart c i printed written
+  pub is_input : IsInput before.told c input
+  pub none : NoneHolds (reasons c input)
+  pub part : IsPart c input printed written
   pub holds : now.told ≡ option_map (with_written written) before.told
   pub prints : out_now.told ≡ option_map (λ text. text ++ printed) out.told
 
--- all else was done, and the last write failed: what its name holds is open
-pub record LostLast (c : Command) (i : Input) (before now : StoreSeen) (out out_now : SinkSeen) : Type 0 where
+-- no reason holds, and the first write failed: what its name holds is open, and nothing was printed
+pub record LostFirst (c : Command) (before : StoreSeen) (out out_now : SinkSeen) : Type 0 where
+  pub input : Input
+  pub is_input : IsInput before.told c input
+  pub none : NoneHolds (reasons c input)
+  pub prints : out_now.told ≡ out.told
+
+-- no reason holds, a first part was done, and the last of its writes failed: what its name holds is open
+pub record LostLast (c : Command) (before now : StoreSeen) (out out_now : SinkSeen) : Type 0 where
+  pub input : Input
   pub printed : List ℕ
   pub written : List Written
   pub last : Written
-  pub finishes : Finishes c i status.Done printed (written ++ last ∷ [])
+  pub is_input : IsInput before.told c input
+  pub none : NoneHolds (reasons c input)
+  pub part : IsPart c input printed (written ++ last ∷ [])
   pub others : OthersStay last.name (option_map (with_written written) before.told) now.told
   pub prints : out_now.told ≡ option_map (λ text. text ++ printed) out.told
 
--- with its status, a command did this; of want of memory nothing is said here
+-- with its status, a command did this
 abbrev pub Ends : Command → StoreSeen → StoreSeen → SinkSeen → SinkSeen → Status → Type 0
 Ends c before now out out_now status.ReadFailed = ReadFailed before now × Stayed before now out out_now
-Ends c before now out out_now status.WriteFailed = (i : Input) × IsInput before.told c i × NoneHolds (reasons c i) × (((WriteFailed before now × (out_now.told ≡ out.told)) ⊎ (PutFailed out out_now × BrokeOff c i before now out out_now)) ⊎ (WriteFailed before now × LostLast c i before now out out_now))
-Ends c before now out out_now status.Memory = Unit {0}
+Ends c before now out out_now status.WriteFailed = (WriteFailed before now × (LostFirst c before out out_now ⊎ LostLast c before now out out_now)) ⊎ (PutFailed out out_now × BrokeOff c before now out out_now)
+Ends c before now out out_now status.Memory = Stayed before now out out_now ⊎ BrokeOff c before now out out_now
 Ends c before now out out_now status.Missing = MissingRose before now × Answered c before now out out_now status.Missing
 Ends c before now out out_now (status.Long seen limit) = LongRose before now × Answered c before now out out_now (status.Long seen limit)
 Ends c before now out out_now s = Answered c before now out out_now s
@@ -205,7 +225,7 @@ Spares (Run image r) before now = OthersStayThan None r.keep before now
 Spares (Go file name r) before now = OthersStayThan (Some name) r.keep before now
 Spares (Disasm name) before now = now.told ≡ before.told
 Spares (Assemble listing name) before now = OthersStay name before.told now.told
-Spares (Gen number name) before now = now.told ≡ before.told
+Spares (Gen number name) before now = OthersStay name before.told now.told
 
 -- a status that is no failed call and no want of memory
 abbrev pub IfSpoken : Status → Type 0 → Type 0
@@ -230,10 +250,37 @@ IsFinish (Run name r) s = IsRunEnd s
 IsFinish (Go file name r) s = IsRunEnd s
 IsFinish (Disasm name) s = s ≡ status.Done
 IsFinish (Assemble listing name) s = s ≡ status.Done
-IsFinish (Gen number name) s = ⊥
+IsFinish (Gen number name) s = s ≡ status.Done
 
 abbrev pub IsFinishOrWant : Command → Status → Type 0
 IsFinishOrWant c s = IsFinish c s ⊎ (s ≡ status.Memory)
+
+-- ---- where all is good
+
+-- each line of a schedule is good and possible
+abbrev pub GoodSchedule : Option (List ℕ) → Plan → State → Type 0
+GoodSchedule schedule (Schedule file) s = (text : List ℕ) × (printed : List ℕ) × (schedule ≡ Some text) × RunsToEnd s text printed
+GoodSchedule schedule (Fair steps) s = Unit {0}
+GoodSchedule schedule (Shuffle number steps) s = Unit {0}
+
+-- so is it, and the messages fit
+abbrev pub GoodRun : Option (List ℕ) → RunWords → Image → Type 0
+GoodRun schedule r image = NoneHolds (message_reasons image r.messages) × GoodSchedule schedule r.plan (opened image r.messages)
+
+-- of the image that is run: that of IMAGE, or the one that is now told under its name
+abbrev pub IsGood : Command → Input → Option Files → Type 0
+IsGood (Run name r) i now = (bytes : List ℕ) (image : Image) → i.first ≡ Some bytes → Spells bytes image → GoodRun i.schedule r image
+IsGood (Go file name r) i now = (files : Files) (bytes : List ℕ) (image : Image) → now ≡ Some files → file_at files name ≡ Some bytes → Spells bytes image → GoodRun i.schedule r image
+IsGood _ i now = Unit {0}
+
+abbrev pub DoneOrWant : Status → Type 0
+DoneOrWant s = (s ≡ status.Done) ⊎ (s ≡ status.Memory)
+
+-- a status that is no failed read and no want of memory
+abbrev pub IfRead : Status → Type 0 → Type 0
+IfRead status.ReadFailed P = Unit {0}
+IfRead status.Memory P = Unit {0}
+IfRead _ P = P
 
 -- the words are no command, or memory for them is wanting
 abbrev pub IsNoCommand : Status → Type 0

@@ -142,10 +142,6 @@ plan_reads (Shuffle number steps) found = Nil
 abbrev pub run_reads : Option (List ℕ) → ℕ → Plan → Option (List ℕ) → Reasons
 run_reads found limit plan schedule = also (read_reasons found limit) (plan_reads plan schedule)
 
--- a command that isn't built yet
-abbrev pub not_built : Status → Type 0
-not_built s = s ≡ status.NotBuilt
-
 abbrev pub reasons : Command → Input → Reasons
 reasons (Check file) i = also (read_reasons i.first FILE_LIMIT) (source_reasons i.first)
 reasons (Compile file image) i = also (read_reasons i.first FILE_LIMIT) (source_reasons i.first)
@@ -153,7 +149,7 @@ reasons (Run image r) i = also (run_reads i.first IMAGE_LIMIT r.plan i.schedule)
 reasons (Disasm image) i = also (read_reasons i.first IMAGE_LIMIT) (image_reasons i.first)
 reasons (Assemble listing image) i = also (read_reasons i.first LISTING_LIMIT) (listing_reasons i.first)
 reasons (Go file image r) i = also (run_reads i.first FILE_LIMIT r.plan i.schedule) (source_reasons i.first)
-reasons (Gen number image) i = Or not_built Nil
+reasons (Gen number image) i = Nil
 
 -- with an image at hand, those of messages
 abbrev pub message_reasons : Image → List MessageWord → Reasons

@@ -16,9 +16,9 @@ use Rattle.redn_command.specs.declared.limits.TheConstants.{MOST_STEPS}
 use Rattle.hex.specs.Hex.{decode_of}
 use Rattle.redn_top.specs.MessageWords.{bad_hex, messages}
 use Rattle.redn_top.specs.Sources.{TextRefused, RuleBroken}
-use Rattle.redn_top.specs.RunText.{BreaksOff, MeetsBad, IsCut, StopsAt, steps_asked, made_text}
-use Rattle.redn_top.specs.Reasons.{Finds, IsPlanInput, NoneHolds, Reasons, First, message_reasons, read_reasons, run_reads}
-use Rattle.redn_top.specs.Answers.{Written, with_written, kept, Ran, IsRunPart, RunsMade, RunsImage, IsMadePart, opened}
+use Rattle.redn_top.specs.RunText.{BreaksOff, MeetsBad, StopsAt, steps_asked, made_text}
+use Rattle.redn_top.specs.Reasons.{Finds, IsPlanInput, Reasons, First, read_reasons, run_reads}
+use Rattle.redn_top.specs.Answers.{Written, with_written, kept, Ran, IsPartBy, RunsMade, RunsImage}
 use Rattle.redn_top.specs.declared.limits.TheConstants.{SCHEDULE_LIMIT}
 
 -- a file that is held and short enough
@@ -131,35 +131,43 @@ RunRefused s text before now _ = ⊥
 abbrev pub Printed : (Status → List ℕ → Type 0) → SinkSeen → SinkSeen → Status → Type 0
 Printed Runs before now s = (printed : List ℕ) × Runs s printed × (now.told ≡ option_map (λ text. text ++ printed) before.told)
 
--- how something ran, and what it put before a put failed
-abbrev pub RanBy : (Status → List ℕ → Type 0) → (List ℕ → Type 0) → SinkSeen → SinkSeen → Status → Type 0
-RanBy Runs IsPart before now status.WriteFailed = PutFailed before now × ((printed : List ℕ) × IsPart printed × (now.told ≡ option_map (λ text. text ++ printed) before.told))
-RanBy Runs IsPart before now status.Memory = Unit {0}
-RanBy Runs IsPart before now status.Done = Printed Runs before now status.Done
-RanBy Runs IsPart before now (status.Schedule line) = Printed Runs before now (status.Schedule line)
-RanBy Runs IsPart before now (status.Step line) = Printed Runs before now (status.Step line)
-RanBy Runs IsPart before now (status.Message fault) = Printed Runs before now (status.Message fault)
-RanBy Runs IsPart before now _ = ⊥
+-- something may run so, and a part of what it prints was put
+abbrev pub PrintedPart : (Status → List ℕ → Type 0) → SinkSeen → SinkSeen → Type 0
+PrintedPart Runs before now = (printed : List ℕ) × IsPartBy Runs printed × (now.told ≡ option_map (λ text. text ++ printed) before.told)
+
+-- how something ran, and what it put before a put failed or memory was wanting
+abbrev pub RanBy : (Status → List ℕ → Type 0) → SinkSeen → SinkSeen → Status → Type 0
+RanBy Runs before now status.WriteFailed = PutFailed before now × PrintedPart Runs before now
+RanBy Runs before now status.Memory = PrintedPart Runs before now
+RanBy Runs before now status.Done = Printed Runs before now status.Done
+RanBy Runs before now (status.Schedule line) = Printed Runs before now (status.Schedule line)
+RanBy Runs before now (status.Step line) = Printed Runs before now (status.Step line)
+RanBy Runs before now (status.Message fault) = Printed Runs before now (status.Message fault)
+RanBy Runs before now _ = ⊥
 
 -- how an image was run with messages under the text of a schedule
 abbrev pub ImageRan : Image → List MessageWord → List ℕ → SinkSeen → SinkSeen → Status → Type 0
-ImageRan image words text = RanBy (RunsImage image words text) (λ printed. NoneHolds (message_reasons image words) × IsCut (opened image words) text printed)
+ImageRan image words text = RanBy (RunsImage image words text)
 
 -- why it wasn't run to its end
 abbrev pub MadeStopped : Image → List MessageWord → Plan → SinkSeen → SinkSeen → Status → Type 0
 MadeStopped image words plan before now (status.Message fault) = Printed (RunsMade image words plan) before now (status.Message fault)
-MadeStopped image words plan before now status.WriteFailed = PutFailed before now × ((printed : List ℕ) × IsMadePart plan words image printed × (now.told ≡ option_map (λ text. text ++ printed) before.told))
-MadeStopped image words plan before now status.Memory = Unit {0}
+MadeStopped image words plan before now status.WriteFailed = PutFailed before now × PrintedPart (RunsMade image words plan) before now
+MadeStopped image words plan before now status.Memory = PrintedPart (RunsMade image words plan) before now
 MadeStopped image words plan before now _ = ⊥
 
 -- it was run to its end
 abbrev pub MadeWhole : Image → List MessageWord → Plan → SinkSeen → SinkSeen → Type 0
 MadeWhole image words plan before now = Printed (RunsMade image words plan) before now status.Done
 
--- why a run by such a plan wasn't put whole, from a state
+-- a part of what such a plan prints was put, from a state
+abbrev pub MadePart : State → ℕ → List Action → SinkSeen → SinkSeen → Type 0
+MadePart s steps acts before now = (printed : List ℕ) × (rest : List ℕ) × (made_text s steps acts ≡ printed ++ rest) × (now.told ≡ option_map (λ text. text ++ printed) before.told)
+
+-- why a run by such a plan wasn't put whole
 abbrev pub MadeRefused : State → ℕ → List Action → SinkSeen → SinkSeen → Status → Type 0
-MadeRefused s steps acts before now status.WriteFailed = PutFailed before now × ((printed : List ℕ) × (rest : List ℕ) × (made_text s steps acts ≡ printed ++ rest) × (now.told ≡ option_map (λ text. text ++ printed) before.told))
-MadeRefused s steps acts before now status.Memory = Unit {0}
+MadeRefused s steps acts before now status.WriteFailed = PutFailed before now × MadePart s steps acts before now
+MadeRefused s steps acts before now status.Memory = MadePart s steps acts before now
 MadeRefused s steps acts before now _ = ⊥
 
 -- few enough steps
@@ -205,11 +213,10 @@ pub record RunEnded (schedule : Option (List ℕ)) (r : RunWords) (image : Image
   pub holds : now.told ≡ option_map (with_written (kept r image s)) before.told
   pub prints : out_now.told ≡ option_map (λ text. text ++ printed) out.told
 
--- a put failed
+-- a put failed, or memory was wanting
 pub record RunBroke (schedule : Option (List ℕ)) (r : RunWords) (image : Image) (before now : StoreSeen) (out out_now : SinkSeen) : Type 0 where
   pub printed : List ℕ
-  pub failed : PutFailed out out_now
-  pub part : IsRunPart schedule r.plan r.messages image printed
+  pub part : IsPartBy (Ran schedule r.plan r.messages image) printed
   pub holds : now.told ≡ before.told
   pub prints : out_now.told ≡ option_map (λ text. text ++ printed) out.told
 
@@ -228,6 +235,6 @@ RunEnds schedule r image before now out out_now status.Done = RunEnded schedule 
 RunEnds schedule r image before now out out_now (status.Schedule line) = RunEnded schedule r image before now out out_now (status.Schedule line)
 RunEnds schedule r image before now out out_now (status.Step line) = RunEnded schedule r image before now out out_now (status.Step line)
 RunEnds schedule r image before now out out_now (status.Message fault) = RunEnded schedule r image before now out out_now (status.Message fault)
-RunEnds schedule r image before now out out_now status.WriteFailed = RunBroke schedule r image before now out out_now ⊎ RunLost schedule r image before now out out_now
-RunEnds schedule r image before now out out_now status.Memory = Unit {0}
+RunEnds schedule r image before now out out_now status.WriteFailed = (PutFailed out out_now × RunBroke schedule r image before now out out_now) ⊎ RunLost schedule r image before now out out_now
+RunEnds schedule r image before now out out_now status.Memory = RunBroke schedule r image before now out out_now
 RunEnds schedule r image before now out out_now _ = ⊥

@@ -1,5 +1,5 @@
 -- What a run prints, and what is recorded of it.
-use Rattle.std.specs.Prelude.{◌≡◌, ◌⊎◌, ℕ, false, take, List, [], ◌∷◌, ◌++◌, map, length, codes, ◌==◌, if◌then◌else◌, Some, None}
+use Rattle.std.specs.Prelude.{◌≡◌, ℕ, false, take, List, [], ◌∷◌, ◌++◌, map, length, codes, ◌==◌, if◌then◌else◌, Some, None}
 use Rattle.std.specs.List.{flat_map}
 use Rattle.redn_words.specs.declared.types.Action.{Action}
 use Rattle.redn_words.specs.States.{State}
@@ -56,17 +56,6 @@ pub record BreaksOff (s : State) (text : List ℕ) (printed : List ℕ) : Type 0
   pub begins : Begins 1 (lines_of text) (before ++ here ∷ [])
   pub all_possible : AllPossible s (actions_of (before ++ here ∷ []))
   pub prints : printed ≡ events_text s (actions_of before) ++ take part (event_text (shown (reached s (actions_of before)) here.action))
-
--- the same, where all events are printed and a part of the end line
-pub record EndsEarly (s : State) (text : List ℕ) (printed : List ℕ) : Type 0 where
-  pub lines : List Numbered
-  pub part : ℕ
-  pub reads : Reads 1 (lines_of text) lines None
-  pub all_possible : AllPossible s (actions_of lines)
-  pub prints : printed ≡ events_text s (actions_of lines) ++ take part end_schedule
-
-abbrev pub IsCut : State → List ℕ → List ℕ → Type 0
-IsCut s text printed = BreaksOff s text printed ⊎ EndsEarly s text printed
 
 -- ---- by a plan that makes the actions
 

@@ -1,12 +1,12 @@
 -- What a source text means, and why it means nothing.
-use Rattle.std.specs.Prelude.{◌≡◌, ℕ, ◌≤◌, List, length, slice_get}
+use Rattle.std.specs.Prelude.{◌≡◌, ℕ, List, length, slice_get}
 use Rattle.std.specs.Option.{option_map_or}
 use Rattle.redn_syntax.specs.declared.token.Token.{Token}
 use Rattle.redn_syntax.specs.declared.tree.File.{File}
 use Rattle.redn_syntax.specs.Tokens.{Tokenizes}
-use Rattle.redn_syntax.specs.Grammar.{HasTree, HasTreeWithin}
+use Rattle.redn_syntax.specs.Grammar.{HasTreeWithin}
 use Rattle.redn_lex.specs.Faults.{IsBadByte, IsTooWide}
-use Rattle.redn_parse.specs.Depth.{OpensDeep}
+use Rattle.redn_parse.specs.Answers.{IsUnexpected, IsTooDeep}
 use Rattle.redn_kernel.specs.declared.types.Program.{Program}
 use Rattle.redn_check.specs.Faults.{fault, IsFirst}
 use Rattle.redn_check.specs.Rules.{Accepts, faults}
@@ -35,8 +35,8 @@ token_place text tokens n = option_map_or (λ (t : Token). t.at) (slice_get toke
 pub data WhyNoTree (text : List ℕ) : TextFault → Type 0 where
   NoToken : (at : ℕ) → IsBadByte text at → WhyNoTree text (Byte at)
   WideNumber : (at : ℕ) → IsTooWide text at → WhyNoTree text (Byte at)
-  NoFile : (tokens : List Token) (n : ℕ) → Tokenizes text tokens → n ≤ length tokens → ((f : File) → ¬ HasTree text tokens f) → WhyNoTree text (Byte (token_place text tokens n))
-  TooDeep : (tokens : List Token) (at : ℕ) → Tokenizes text tokens → OpensDeep text tokens at → WhyNoTree text (Nesting at)
+  NoFile : (tokens : List Token) (n : ℕ) → Tokenizes text tokens → IsUnexpected text tokens n → WhyNoTree text (Byte (token_place text tokens n))
+  TooDeep : (tokens : List Token) (at : ℕ) → Tokenizes text tokens → IsTooDeep text tokens at → WhyNoTree text (Nesting at)
 
 -- a text of no tree, or of one that is nested too deep
 pub record TextRefused (text : List ℕ) (fault : TextFault) : Type 0 where

@@ -7,7 +7,7 @@ use Rattle.redn_top.specs.declared.status.ImageFault.TheVariants.{Magic, Version
 use Rattle.redn_top.specs.declared.status.MessageFault.{MessageFault}
 use Rattle.redn_top.specs.declared.status.MessageFault.TheVariants.{NoChain, Twice, BadHex, Length}
 use Rattle.redn_top.specs.declared.status.Status.{Status}
-use Rattle.redn_top.specs.declared.status.Status.TheVariants.{Done, Words, ReadFailed, Missing, WriteFailed, Long, Text, Program, Image, Memory, Schedule, Step, Message, NotBuilt}
+use Rattle.redn_top.specs.declared.status.Status.TheVariants.{Done, Words, ReadFailed, Missing, WriteFailed, Long, Text, Program, Image, Memory, Schedule, Step, Message}
 
 abbrev pub code_of : Status → ℕ
 code_of Done = 0
@@ -22,7 +22,6 @@ code_of Memory = 9
 code_of (Schedule line) = 10
 code_of (Step line) = 11
 code_of (Message fault) = 12
-code_of NotBuilt = 13
 code_of Missing = 16
 
 abbrev pub text_fault : TextFault → List ℕ
@@ -57,5 +56,4 @@ status_text Memory = codes "redn: out of memory\n"
 status_text (Schedule line) = codes "redn: schedule refused: line " ++ decimal line ++ codes "\n"
 status_text (Step line) = codes "redn: step not possible: line " ++ decimal line ++ codes "\n"
 status_text (Message fault) = codes "redn: message refused: " ++ message_fault fault ++ codes "\n"
-status_text NotBuilt = codes "redn: not built\n"
 status_text Missing = codes "redn: file missing\n"

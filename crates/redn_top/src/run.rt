@@ -23,8 +23,8 @@ use redn_command::{MessageWord, Plan};
 use redn_disasm::next_line;
 use redn_image::Image;
 use redn_outside::{Failed, Sink};
-use redn_sched::{Fair, Got, ScheduleReader, Shuffle};
-use redn_trace::event_line;
+use redn_sched::{Fair, Got, ScheduleReader, Shuffle, beginnings_are_read, each_text_is_read};
+use redn_trace::{each_event_has_a_line, event_line};
 use redn_words::{Action, Memory, Messages, Obs};
 use std::alloc::Global;
 
@@ -81,6 +81,7 @@ fn make_step<K: Sink>(adapter: &mut Adapter, got: Got, out: &mut K) -> Result<()
     ensures good { OnOk result (bad_got got ≡ None) }
     ensures refused { IfErr result (StepRefused got adapter.old.state (K.seen out.old) (K.seen out.new)) }
 {
+    each_event_has_a_line();
     match got {
         Got::More => Ok(()),
         Got::Bad { line } => Err(Status::Schedule { line }),
@@ -175,6 +176,7 @@ fn run_made<K: Sink>(
     ensures refused { IfErr result (MadeRefused adapter.old.state steps
         (made_from steps adapter.old.state maker.old) (K.seen out.old) (K.seen out.new)) }
 {
+    each_event_has_a_line();
     for _ in 0..steps {
         let Some(action) = maker.next(adapter) else {
             return put(out, b"end quiet\n");
@@ -222,6 +224,8 @@ pub fn run_image<K: Sink>(
     ensures ran { ImageRan image (map message_view words.now) text.now (K.seen out.old) (K.seen out.new)
         (status_of result) }
 {
+    each_text_is_read();
+    beginnings_are_read();
     let messages = messages_of(alloc, image.receives.as_slice().len(), words)?;
     let mut adapter = open_with(alloc, image, messages)?;
     run(&mut adapter, text, out)?;

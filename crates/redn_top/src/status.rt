@@ -66,8 +66,6 @@ pub enum Status {
     Step { line: u64 },
     /// The messages can't be given to the chains.
     Message(MessageFault),
-    /// What is asked isn't built yet.
-    NotBuilt,
 }
 
 impl From<Memory> for Status {
@@ -98,7 +96,6 @@ pub fn status_code(s: &Status) -> u8
         Status::Schedule { .. } => 10,
         Status::Step { .. } => 11,
         Status::Message(_) => 12,
-        Status::NotBuilt => 13,
         Status::Missing => 16,
     }
 }
@@ -225,7 +222,6 @@ pub fn status_line(s: &Status, buf: &mut [u8; 128]) -> usize
             put_around(buf, b"redn: step not possible: line ", *line, b"\n")
         }
         Status::Message(fault) => put_message(buf, *fault),
-        Status::NotBuilt => put_text(&mut buf[..], 0, b"redn: not built\n"),
         Status::Missing => put_text(&mut buf[..], 0, b"redn: file missing\n"),
     }
 }

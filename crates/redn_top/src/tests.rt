@@ -2,14 +2,17 @@ mod adapter;
 mod calls;
 mod fair;
 mod graphs;
+mod hostile;
 mod images;
 mod listings;
+mod outside;
 mod programs;
 mod schedules;
 
 use crate::status::{ImageFault, MessageFault, Status, TextFault, status_code, status_line};
 use crate::top::redn;
 use redn_outside::{MemSink, MemStore};
+use redn_sched::read_number;
 use redn_words::Memory;
 use std::alloc::Global;
 use std::fmt::Write;
@@ -338,13 +341,37 @@ fn options_stand_anywhere_behind_the_verb(rt: HostRuntime) -> Result<(), Fail> {
     Ok(())
 }
 
+/// What stands between two parts of a text.
+fn between<'a>(text: &'a [u8], before: &[u8], behind: &[u8]) -> Option<&'a [u8]> {
+    text.strip_prefix(before)?.strip_suffix(behind)
+}
+
 #[test]
-fn a_generated_file_is_not_built(rt: HostRuntime) -> Result<(), Fail> {
+fn a_generated_file_is_run_and_summed(rt: HostRuntime) -> Result<(), Fail> {
     let alloc = rt.alloc();
-    let mut store = MemStore::new(alloc, Vec::new(alloc));
-    let outcome = with_words(alloc, &["gen", "5", "e.img"], &mut store, &[])?;
-    assert_eq!(rt; outcome.status, Status::NotBuilt);
-    assert_eq!(rt; outcome.image, None);
+    let table: [(&str, &[u8], &[u8]); 2] = [
+        (
+            "5",
+            b"gen 5\nchains 2\nevents 8006\nsteps ",
+            b"\nreply 0 10000 1000\nreply 1 11000 1000\nend quiet\n",
+        ),
+        (
+            "1020",
+            b"gen 1020\nchains 1\nevents 4003\nsteps ",
+            b"\nreply 0 1529000 1000\nend quiet\n",
+        ),
+    ];
+    for (number, before, behind) in table {
+        let mut store = MemStore::new(alloc, Vec::new(alloc));
+        let outcome = with_words(alloc, &["gen", number, "e.img"], &mut store, &[])?;
+        assert_eq!(rt; outcome.status, Status::Done);
+        let steps = match between(&outcome.printed, before, behind) {
+            Some(digits) => read_number(digits),
+            None => None,
+        };
+        assert!(rt; matches!(steps, Some(4003..=2_500_000)));
+        assert!(rt; outcome.image.is_some());
+    }
     Ok(())
 }
 
@@ -546,7 +573,7 @@ fn a_source_above_its_limit_is_too_long(rt: HostRuntime) -> Result<(), Fail> {
 
 #[test]
 fn each_status_has_its_code_and_its_line(rt: HostRuntime) -> Result<(), Fail> {
-    let table: [(Status, u8, &[u8]); 23] = [
+    let table: [(Status, u8, &[u8]); 22] = [
         (Status::Done, 0, b""),
         (Status::ReadFailed, 3, b"redn: read failed\n"),
         (Status::WriteFailed, 4, b"redn: write failed\n"),
@@ -646,7 +673,6 @@ fn each_status_has_its_code_and_its_line(rt: HostRuntime) -> Result<(), Fail> {
             11,
             b"redn: step not possible: line 18446744073709551615\n",
         ),
-        (Status::NotBuilt, 13, b"redn: not built\n"),
         (Status::Missing, 16, b"redn: file missing\n"),
     ];
     for (status, code, text) in table {

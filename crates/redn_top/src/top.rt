@@ -1,16 +1,18 @@
 //! The commands.
 
-ghost use Rattle.std.specs.Prelude.{◌≡◌, ◌≤◌, List, ℕ, None, Some, IfErr, OnOk, map, string_bytes};
+ghost use Rattle.std.specs.Prelude.{◌≡◌, ◌≤◌, List, ℕ, None, Some, IfOk, IfErr, OnOk, map, string_bytes};
 ghost use Rattle.std.specs.Option.{option_map};
 ghost use Rattle.redn_outside.specs.Files.{Files, OthersStay, with_file};
 ghost use Rattle.redn_outside.specs.Seen.{KeepsOthers};
+ghost use Rattle.redn_image.specs.Faithful.{Faithful};
 ghost use Rattle.redn_image.specs.Spelling.{Spells};
-ghost use Rattle.redn_command.specs.Words.{Command as CommandValue, Check, Compile, Run, Go, Disasm, Assemble, IsCommand, command_view, message_view, plan_view};
+ghost use Rattle.redn_command.specs.Words.{Command as CommandValue, Check, Compile, Run, Go, Disasm, Assemble, Gen, IsCommand, command_view, message_view, plan_view};
+ghost use Rattle.redn_summary.specs.Summary.{generated_program};
 ghost use Rattle.redn_top.specs.StatusText.{code_of};
 ghost use Rattle.redn_top.specs.declared.status.Status.{Status};
 ghost use Rattle.redn_top.specs.declared.status.Status.TheVariants.{Words};
 ghost use Rattle.redn_top.specs.Reasons.{Input, IsInput, First, NoneHolds, reasons};
-ghost use Rattle.redn_top.specs.Answers.{Ends, IfSpoken, IsFinish, IsFinishOrWant, IsNoCommand, NoneFailed, OthersStayThan, Spares, Stayed, status_of};
+ghost use Rattle.redn_top.specs.Answers.{DoneOrWant, Ends, IfRead, IfSpoken, IsFinish, IsFinishOrWant, IsGood, IsNoCommand, NoneFailed, OthersStayThan, Spares, Stayed, status_of};
 ghost use Rattle.redn_top.specs.Refusals.{CanRun, HasText, IsRunnable, RunEnds, WriteRefused, run_of};
 
 use crate::limits::{FILE_LIMIT, IMAGE_LIMIT, LISTING_LIMIT};
@@ -18,12 +20,16 @@ use crate::reading::{image_in, image_of_listing, program_in, read_file, read_run
 use crate::run::{put, put_lines, run_image, run_image_made};
 use crate::source::checked_text;
 use crate::status::Status;
+use redn_check::{CheckFault, check};
 use redn_command::{Command, MessageWord, Plan, WordsFault, command_of};
 use redn_compile::compile;
 use redn_disasm::listing;
+use redn_gen::gen_file;
 use redn_image::{Image, write_image};
 use redn_outside::{Sink, Store, WriteFault};
-use redn_sched::schedule_text;
+use redn_sched::{beginnings_are_read, each_text_is_read_once, schedule_text};
+use redn_summary::summary;
+use redn_words::Memory;
 use std::alloc::Global;
 
 /// Writes bytes under a name.
@@ -105,6 +111,18 @@ fn run_check<S: Store, K: Sink>(
     let source = read_file(alloc, store, file, FILE_LIMIT)?;
     let text = checked_text(alloc, &source)?;
     put(out, &text)
+}
+
+/// The image of the generated file of a number.
+fn generated_image(alloc: Global, number: u32) -> Result<Image, Memory>
+    ensures { IfOk result (λ image. Faithful (generated_program number) image) }
+{
+    let file = gen_file(alloc, number)?;
+    match check(alloc, &file) {
+        Ok(program) => compile(alloc, &program),
+        Err(CheckFault::Rule { .. }) => unreachable!(),
+        Err(CheckFault::Memory) => Err(Memory),
+    }
 }
 
 /// Writes the image of a source file.
@@ -204,6 +222,24 @@ fn run_assemble<S: Store, K: Sink>(
     write_out(alloc, name, &image, store)
 }
 
+/// Writes the image of the generated file of a number, and prints the summary of its run.
+fn run_gen<S: Store, K: Sink>(
+    alloc: Global,
+    number: u32,
+    name: &str,
+    store: &mut S,
+    out: &mut K,
+) -> Result<(), Status>
+    ensures ends { Ends (Gen number name.now) (S.seen store.old) (S.seen store.new)
+        (K.seen out.old) (K.seen out.new) (status_of result) }
+    ensures spares { Spares (Gen number name.now) (S.seen store.old) (S.seen store.new) }
+{
+    let image = generated_image(alloc, number)?;
+    write_out(alloc, name, &image, store)?;
+    let text = summary(alloc, image, number)?;
+    put_lines(out, &text)
+}
+
 /// The status with which a command ends.
 fn finished(ended: Result<(), Status>) -> Status
     ensures { result ≡ status_of ended }
@@ -215,46 +251,46 @@ fn finished(ended: Result<(), Status>) -> Status
 }
 
 /// Runs a command.
-#[tactic(auto, using(crate::proofs::Endings::gen_ends))]
 fn obey<S: Store, K: Sink>(alloc: Global, command: &Command, store: &mut S, out: &mut K) -> Status
     requires { CanRun (command_view command.now) }
     ensures ends { Ends (command_view command.now) (S.seen store.old) (S.seen store.new)
         (K.seen out.old) (K.seen out.new) result }
     ensures spares { Spares (command_view command.now) (S.seen store.old) (S.seen store.new) }
 {
-    finished(match command {
-        Command::Check { file } => run_check(alloc, file.as_str(), store, out),
+    match command {
+        Command::Check { file } => finished(run_check(alloc, file.as_str(), store, out)),
         Command::Compile { file, image } => {
-            run_compile(alloc, file.as_str(), image.as_str(), store, out)
+            let (file, image) = (file.as_str(), image.as_str());
+            finished(run_compile(alloc, file, image, store, out))
         }
         Command::Run {
             image,
             plan,
             keep,
             messages,
-        } => run_run(alloc, image.as_str(), plan, keep, messages, store, out),
+        } => {
+            let image = image.as_str();
+            finished(run_run(alloc, image, plan, keep, messages, store, out))
+        }
         Command::Go {
             file,
             image,
             plan,
             keep,
             messages,
-        } => run_go(
-            alloc,
-            file.as_str(),
-            image.as_str(),
-            plan,
-            keep,
-            messages,
-            store,
-            out,
-        ),
-        Command::Disasm { image } => run_disasm(alloc, image.as_str(), store, out),
-        Command::Assemble { listing, image } => {
-            run_assemble(alloc, listing.as_str(), image.as_str(), store, out)
+        } => {
+            let (file, image) = (file.as_str(), image.as_str());
+            finished(run_go(alloc, file, image, plan, keep, messages, store, out))
         }
-        Command::Gen { .. } => Err(Status::NotBuilt),
-    })
+        Command::Disasm { image } => finished(run_disasm(alloc, image.as_str(), store, out)),
+        Command::Assemble { listing, image } => {
+            let (listing, image) = (listing.as_str(), image.as_str());
+            finished(run_assemble(alloc, listing, image, store, out))
+        }
+        Command::Gen { number, image } => {
+            finished(run_gen(alloc, *number, image.as_str(), store, out))
+        }
+    }
 }
 
 /// Runs a command by its words, over a store of files and a sink for what it prints.
@@ -280,7 +316,7 @@ pub fn redn<S: Store, K: Sink>(
     ensures demands { (files : Files) → (S.seen store.old).told ≡ Some files
         → (c : CommandValue) → IsCommand (map string_bytes words.now.items) c
         → (i : Input) → IsInput (Some files) c i → (s : Status) → First (reasons c i) s
-        → IfSpoken result (code_of result ≡ code_of s) }
+        → IfRead result (code_of result ≡ code_of s) }
     ensures works { (files : Files) → (S.seen store.old).told ≡ Some files
         → (c : CommandValue) → IsCommand (map string_bytes words.now.items) c
         → (i : Input) → IsInput (Some files) c i → NoneHolds (reasons c i)
@@ -290,7 +326,18 @@ pub fn redn<S: Store, K: Sink>(
         → (i : Input) → IsInput (Some files) c i → NoneHolds (reasons c i)
         → NoneFailed (S.seen store.old) (S.seen store.new) (K.seen out.old) (K.seen out.new)
         → IsFinishOrWant c result }
+
+    // And where also the messages fit, and each line of a schedule is good and possible, all is
+    // done, unless a call fails or memory is wanting.
+    ensures succeeds { (files : Files) → (S.seen store.old).told ≡ Some files
+        → (c : CommandValue) → IsCommand (map string_bytes words.now.items) c
+        → (i : Input) → IsInput (Some files) c i → NoneHolds (reasons c i)
+        → IsGood c i (S.seen store.new).told
+        → NoneFailed (S.seen store.old) (S.seen store.new) (K.seen out.old) (K.seen out.new)
+        → DoneOrWant result }
 {
+    each_text_is_read_once();
+    beginnings_are_read();
     match command_of(alloc, words) {
         Ok(command) => obey(alloc, &command, store, out),
         Err(WordsFault::Refused) => Status::Words,

@@ -6,6 +6,7 @@ use crate::source::read_program;
 use crate::tests::ECHO;
 use redn_block::block_ring;
 use redn_cas::{probe_template, test48_template, test64_template};
+use redn_gen::{gen_file, gen_messages};
 use redn_graph::{Block, End, graph};
 use redn_kernel::{Cell, Kernel, SourceAnswer, SourceState, StartFault, Word};
 use redn_lookup::lookup_core;
@@ -30,6 +31,17 @@ fn a_chain_has_its_blocks(rt: HostRuntime) -> Result<(), Fail> {
     let p = read_program(alloc, text)?;
     let graph = graph(alloc, &p, 0)?;
     assert!(rt; !graph.blocks.as_slice().is_empty());
+    Ok(())
+}
+
+#[test]
+fn a_generated_file_has_its_chains_and_messages(rt: HostRuntime) -> Result<(), Fail> {
+    let alloc = rt.alloc();
+    let file = gen_file(alloc, 7)?;
+    let messages = gen_messages(alloc, 7)?;
+    assert_eq!(rt; file.tables.as_slice().len(), 1);
+    assert_eq!(rt; file.chains.as_slice().len(), 4);
+    assert_eq!(rt; messages.list.len(), 4);
     Ok(())
 }
 

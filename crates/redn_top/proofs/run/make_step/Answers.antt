@@ -4,13 +4,12 @@ use Rattle.redn_top.specs.RunText.{events_text}
 use Rattle.redn_top.proofs.RunLemmas.{step_some, events_text-push}
 use Rattle.redn_top.proofs.ScheduleRuns.{makes_one}
 use Rattle.redn_top.proofs.MadeRuns.{put_ok}
-use Rattle.redn_top.proofs.Printable.{shown_fits}
 use Rattle.redn_top.proofs.run.make_step.Goals as goal
 
 pub put_event-requires : goal.put_event-requires
 put_event-requires g c =
     let s = step_some c.args.adapter.now c.in-Action.action c.in-Some.shown c.step.new.self c.in-Some.ensures.shown c.in-Some.ensures.after in
-    subst IsPrintable s.shows_it (shown_fits c.args.adapter.now.state c.in-Action.action)
+    subst IsPrintable s.shows_it (c.each_event_has_a_line.ensures c.args.adapter.now.state c.in-Action.action)
 
 pub returns-in-Some-clause-made : goal.returns-in-Some-clause-made
 returns-in-Some-clause-made g c =

@@ -8,8 +8,7 @@ use Rattle.redn_sched.specs.MadeView.{followed_by}
 use Rattle.redn_top.specs.Makers.{made_from}
 use Rattle.redn_top.specs.Refusals.{MadeRefused, PutRefused}
 use Rattle.redn_top.proofs.RunLemmas.{step_some, faults_here, later_faults}
-use Rattle.redn_top.proofs.Printable.{shown_fits}
-use Rattle.redn_top.proofs.MadeRuns.{MadeSoFar, made_none, made_more, nothing_left, made_broken, all_made, made_put, made_unput, put_ok}
+use Rattle.redn_top.proofs.MadeRuns.{MadeSoFar, made_none, made_more, nothing_left, made_short, made_broken, all_made, made_put, made_unput, put_ok}
 use Rattle.redn_top.proofs.run.run_made.Goals as goal
 use Rattle.redn_top.proofs.run.run_made.Goals.{then-keep+in_ok-keep_action, else-keep}
 
@@ -53,7 +52,7 @@ returns-in_default-clause-refused g c =
 pub put_event-requires : goal.put_event-requires
 put_event-requires g c =
     let s = step_some c.loop.adapter c.in-Some.action c.in-Some-step.shown c.step.new.self c.in-Some-step.ensures.shown c.in-Some-step.ensures.after in
-    subst IsPrintable s.shows_it (shown_fits c.loop.adapter.state c.in-Some.action)
+    subst IsPrintable s.shows_it (c.each_event_has_a_line.ensures c.loop.adapter.state c.in-Some.action)
 
 pub returns-in_err-put_event-clause-refused : goal.returns-in_err-put_event-clause-refused
 returns-in_err-put_event-clause-refused g c =
@@ -121,3 +120,11 @@ returns-clause-refused g c =
     let ends = all_made first steps acts c.loop.adapter c.loop.maker c.args.keep c.loop.made.items before told made in
     IfErr-weaker c.put-2.result (PutRefused (codes "end steps\n") (g.K.Sink.seen c.loop.out) (g.K.Sink.seen c.put-2.new.out)) (MadeRefused first.state steps acts (g.K.Sink.seen c.args.out.now) (g.K.Sink.seen c.put-2.new.out))
     (made_unput first steps acts made.done (codes "end steps\n") ends.0 ends.1 (g.K.Sink.seen c.args.out.now) (g.K.Sink.seen c.loop.out) (g.K.Sink.seen c.put-2.new.out) made.ran.text c.loop.invariant.1) c.put-2.ensures.refused
+
+pub returns-in_err-keep_action-clause-refused : goal.returns-in_err-keep_action-clause-refused
+returns-in_err-keep_action-clause-refused g c =
+    let first = c.args.adapter.now in
+    let steps = c.args.steps in
+    let acts = made_from steps first.state c.args.maker.now in
+    let p = err_from_is_err_and c.from_residual.result c.from_residual.ensures.1 in
+    rw (p.1, p.2) (made_short first steps acts c.loop.counter c.loop-test.true c.loop.adapter c.loop.maker c.args.keep c.loop.made.items (g.K.Sink.seen c.args.out.now).told (g.K.Sink.seen c.loop.out).told c.loop.invariant.0 (g.K.Sink.seen c.args.out.now) (g.K.Sink.seen c.loop.out) refl refl)

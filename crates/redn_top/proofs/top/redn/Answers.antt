@@ -3,6 +3,7 @@ use Rattle.std.specs.Prelude.{Err}
 use Rattle.redn_command.specs.Words.{Command, command_view}
 use Rattle.redn_top.specs.Answers.{Ends, Spares}
 use Rattle.redn_top.proofs.OneReason.{can_run, demands_so, works_so, completes_so}
+use Rattle.redn_top.proofs.Succeeding.{succeeds_so}
 use Rattle.redn_top.proofs.Endings.{spares_same}
 use Rattle.redn_top.proofs.top.redn.Goals as goal
 
@@ -32,6 +33,11 @@ returns-in-Ok-clause-completes g c files told d is i found none calm =
     let ends = subst (λ (e : Command). Ends e (g.S.Store.seen c.args.store.now) (g.S.Store.seen c.obey.new.store) (g.K.Sink.seen c.args.out.now) (g.K.Sink.seen c.obey.new.out) c.obey.result) (sym (c.in-Ok.ensures.only d is)) c.obey.ensures.ends in
     completes_so d (g.S.Store.seen c.args.store.now) (g.S.Store.seen c.obey.new.store) (g.K.Sink.seen c.args.out.now) (g.K.Sink.seen c.obey.new.out) files told i found c.obey.result none calm ends
 
+pub returns-in-Ok-clause-succeeds : goal.returns-in-Ok-clause-succeeds
+returns-in-Ok-clause-succeeds g c files told d is i found none good calm =
+    let ends = subst (λ (e : Command). Ends e (g.S.Store.seen c.args.store.now) (g.S.Store.seen c.obey.new.store) (g.K.Sink.seen c.args.out.now) (g.K.Sink.seen c.obey.new.out) c.obey.result) (sym (c.in-Ok.ensures.only d is)) c.obey.ensures.ends in
+    succeeds_so c.each_text_is_read_once.ensures c.beginnings_are_read.ensures (g.S.Store.seen c.args.store.now) (g.S.Store.seen c.obey.new.store) (g.K.Sink.seen c.args.out.now) (g.K.Sink.seen c.obey.new.out) files told i d found none good calm c.obey.result ends
+
 pub returns-in-Err-Refused-clause-ends : goal.returns-in-Err-Refused-clause-ends
 returns-in-Err-Refused-clause-ends g c d is = absurd (c.in-Err-Refused.ensures.refused (ap Err c.in-Err-Refused.field-0-is) d is)
 
@@ -49,6 +55,9 @@ returns-in-Err-Refused-clause-works g c files told d is i found none = absurd (c
 
 pub returns-in-Err-Refused-clause-completes : goal.returns-in-Err-Refused-clause-completes
 returns-in-Err-Refused-clause-completes g c files told d is i found none calm = absurd (c.in-Err-Refused.ensures.refused (ap Err c.in-Err-Refused.field-0-is) d is)
+
+pub returns-in-Err-Refused-clause-succeeds : goal.returns-in-Err-Refused-clause-succeeds
+returns-in-Err-Refused-clause-succeeds g c files told d is i found none good calm = absurd (c.in-Err-Refused.ensures.refused (ap Err c.in-Err-Refused.field-0-is) d is)
 
 pub returns-in-Err-Memory-clause-spares : goal.returns-in-Err-Memory-clause-spares
 returns-in-Err-Memory-clause-spares g c d is = spares_same d (g.S.Store.seen c.args.store.now)

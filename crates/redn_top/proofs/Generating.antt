@@ -1,0 +1,82 @@
+-- How the generated file's command ends, by what its parts answer.
+use Rattle.std.proofs.Common.{◌≡◌, ℕ, List, [], ◌∷◌, ◌++◌, inl, inr, refl, sym, ap, ◌∙◌}
+use Rattle.std.specs.Prelude.{None, Result, Ok, Err, OnOk, IfErr}
+use Rattle.std.specs.Option.{option_map}
+use Rattle.redn_outside.specs.Files.{with_file}
+use Rattle.redn_outside.specs.Seen.{StoreSeen, SinkSeen}
+use Rattle.redn_image.specs.Rules.{Image}
+use Rattle.redn_image.specs.Spelling.{Spells}
+use Rattle.redn_image.specs.Faithful.{Faithful}
+use Rattle.redn_command.specs.Words.{Gen}
+use Rattle.redn_summary.specs.Summary.{generated_program, summary}
+use Rattle.redn_top.specs.declared.status.Status.{Status}
+use Rattle.redn_top.specs.declared.status.Status.TheVariants.{Done, Words, Schedule as BadSchedule, ReadFailed, Missing, WriteFailed, Long, Text, Program as ProgramRefused, Image as ImageRefused, Memory, Step, Message}
+use Rattle.redn_top.specs.Reasons.{Input}
+use Rattle.redn_top.specs.Answers.{Written, Generated, BrokeOff, Ends, status_of}
+use Rattle.redn_top.specs.Refusals.{LinesRefused, WriteRefused}
+use Rattle.redn_top.proofs.Ending.{written_one}
+use Rattle.redn_top.proofs.ImageRuns.{told_nothing}
+
+-- it reads no file
+no_file : Input
+no_file = record { first = None; schedule = None }
+
+module _ (number : ℕ) (name : List ℕ) (before : StoreSeen) (out : SinkSeen) where
+  pub gen_wants : Ends (Gen number name) before before out out Memory
+  gen_wants = inl (record { holds = refl; prints = refl })
+
+  pub gen_unwritten : (now : StoreSeen) (s : Status) → WriteRefused before now s → Ends (Gen number name) before now out out s
+  gen_unwritten now WriteFailed h = inl (h, inl (record { input = no_file; is_input = tt; none = tt; prints = refl }))
+  gen_unwritten now Memory h = inl (record { holds = ap (λ (x : StoreSeen). x.told) h; prints = refl })
+  gen_unwritten now Done h = absurd h
+  gen_unwritten now Words h = absurd h
+  gen_unwritten now ReadFailed h = absurd h
+  gen_unwritten now Missing h = absurd h
+  gen_unwritten now (Long seen limit) h = absurd h
+  gen_unwritten now (Text fault) h = absurd h
+  gen_unwritten now (ProgramRefused rule at seen) h = absurd h
+  gen_unwritten now (ImageRefused fault) h = absurd h
+  gen_unwritten now (BadSchedule line) h = absurd h
+  gen_unwritten now (Step line) h = absurd h
+  gen_unwritten now (Message fault) h = absurd h
+
+  module _ (image : Image) (faithful : Faithful (generated_program number) image) (now : StoreSeen) (w : (bytes : List ℕ) × Spells bytes image × (now.told ≡ option_map (with_file name bytes) before.told)) where
+    abbrev first : List Written
+    first = record { name = name; bytes = w.0 } ∷ []
+
+    generated : (printed : List ℕ) → printed ≡ summary number image → Generated number name printed first
+    generated printed e = record { image = image; bytes = w.0; spells = w.1; faithful = faithful; prints = e; writes = refl }
+
+    -- a part of the summary was put
+    broke : (out_now : SinkSeen) (printed rest : List ℕ) → summary number image ≡ printed ++ rest → out_now.told ≡ option_map (λ t. t ++ printed) out.told → BrokeOff (Gen number name) before now out out_now
+    broke out_now printed rest e put =
+        record {
+          input = no_file;
+          printed = printed;
+          written = first;
+          is_input = tt;
+          none = tt;
+          part = record { status = Done; rest = rest; later = []; finishes = (generated (printed ++ rest) (sym e), refl); behind = λ empty. absurd (cc) };
+          holds = w.2 ∙ written_one name w.0 before.told;
+          prints = put;
+        }
+
+    pub gen_unsummed : Ends (Gen number name) before now out out Memory
+    gen_unsummed = inr (broke out [] (summary number image) refl (told_nothing out.told))
+
+    module _ (text : List ℕ) (is : text ≡ summary number image) (out_now : SinkSeen) where
+      pub gen_put : (r : Result (Unit {0}) Status) → OnOk r (out_now.told ≡ option_map (λ t. t ++ text) out.told) → IfErr r (LinesRefused text out out_now) → Ends (Gen number name) before now out out_now (status_of r)
+      gen_put (Ok done) e h = record { input = no_file; printed = text; written = first; is_input = tt; answers = inr (tt, (generated text is, refl)); holds = w.2 ∙ written_one name w.0 before.told; prints = e }
+      gen_put (Err WriteFailed) e h = inr (h.0, broke out_now h.1.0 h.1.1 (sym is ∙ h.1.2) h.1.3)
+      gen_put (Err Memory) e h = absurd h
+      gen_put (Err Done) e h = absurd h
+      gen_put (Err Words) e h = absurd h
+      gen_put (Err ReadFailed) e h = absurd h
+      gen_put (Err Missing) e h = absurd h
+      gen_put (Err (Long seen limit)) e h = absurd h
+      gen_put (Err (Text fault)) e h = absurd h
+      gen_put (Err (ProgramRefused rule at seen)) e h = absurd h
+      gen_put (Err (ImageRefused fault)) e h = absurd h
+      gen_put (Err (BadSchedule line)) e h = absurd h
+      gen_put (Err (Step line)) e h = absurd h
+      gen_put (Err (Message fault)) e h = absurd h

@@ -1,0 +1,18 @@
+use Rattle.std.proofs.Common.{◌∙◌}
+use Rattle.std.proofs.lemmas.Result.{err_from_is_err_and}
+use Rattle.redn_top.proofs.Generating.{gen_unwritten, gen_unsummed, gen_put}
+use Rattle.redn_top.proofs.top.run_gen.Goals as goal
+
+pub returns-in_err-write_out-clause-ends : goal.returns-in_err-write_out-clause-ends
+returns-in_err-write_out-clause-ends g c =
+    let p = err_from_is_err_and c.from_residual-in_err-write_out.result c.from_residual-in_err-write_out.ensures.1 in
+    rw (p.1, p.2) (gen_unwritten c.args.number c.args.name.now (g.S.Store.seen c.args.store.now) (g.K.Sink.seen c.args.out.now) (g.S.Store.seen c.write_out.new.store) c.in_err-write_out.field-0.0 c.in_err-write_out.ensures.refused)
+
+pub returns-in_err-text-clause-ends : goal.returns-in_err-text-clause-ends
+returns-in_err-text-clause-ends g c =
+    let p = err_from_is_err_and c.from_residual-in_err-text.result c.from_residual-in_err-text.ensures.1 in
+    rw (p.1, p.2) (gen_unsummed c.args.number c.args.name.now (g.S.Store.seen c.args.store.now) (g.K.Sink.seen c.args.out.now) c.in_ok-image.image c.in_ok-image.ensures (g.S.Store.seen c.write_out.new.store) c.in_ok-write_out.ensures.wrote)
+
+pub returns-clause-ends : goal.returns-clause-ends
+returns-clause-ends g c =
+    gen_put c.args.number c.args.name.now (g.S.Store.seen c.args.store.now) (g.K.Sink.seen c.args.out.now) c.in_ok-image.image c.in_ok-image.ensures (g.S.Store.seen c.write_out.new.store) c.in_ok-write_out.ensures.wrote c.deref.result.now (c.deref.ensures.value ∙ c.in_ok-text.ensures) (g.K.Sink.seen c.put_lines.new.out) c.put_lines.result c.put_lines.ensures.ok c.put_lines.ensures.refused
