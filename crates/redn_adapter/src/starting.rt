@@ -206,13 +206,14 @@ impl Adapter {
         if u.stopped() {
             return None;
         }
-        let copy = *u.held(u.head())?;
-        let r = decode(&copy);
+        let held = u.held(u.head())?;
+        let r = decode(held);
         let class = class(&r);
         if !self.may_start(u, &r, class) {
             return None;
         }
-        let shown = self.start_shown(queue, &copy, &r, class);
+        let shown = self.start_shown(queue, held, &r, class);
+        let copy = *held;
         self.leave(queue, copy, &r, class);
         Some(shown)
     }

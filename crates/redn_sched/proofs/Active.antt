@@ -6,13 +6,13 @@ use Rattle.std.specs.Option.{option_map}
 use Rattle.std.proofs.lemmas.Bool.{false≢true, and_parts, and_from, eq-eqb}
 use Rattle.std.proofs.lemmas.List.Folds.{list_any-append}
 use Rattle.redn_words.specs.declared.types.Flight.{Flight}
-use Rattle.redn_words.specs.declared.types.Action.TheVariants.{Start, Complete}
+use Rattle.redn_words.specs.declared.types.Action.TheVariants.{Fetch, Start, Land, Complete}
 use Rattle.redn_words.specs.States.{Queue, State}
-use Rattle.redn_words.specs.Steps.{possible, with_queue, fetch_possible, start_possible, complete_possible, flying}
+use Rattle.redn_words.specs.Steps.{possible, with_queue, fetch_possible, start_possible, complete_possible, flying, is_landed}
 use Rattle.redn_queue.specs.Telling.{is_unheld, is_unlanded, indexes_ahead, least_unheld, oldest_unlanded}
 use Rattle.redn_adapter.specs.Quiet.{is_active}
 use Rattle.redn_adapter.proofs.Quiet.{find_passes}
-use Rattle.redn_sched.specs.MadeSchedules.{in_turn, land_of, fetch_of, queue_acts}
+use Rattle.redn_sched.specs.MadeSchedules.{in_turn, land_of, fetch_of, queue_action, queue_acts}
 use Rattle.redn_sched.proofs.Turning.{some_found}
 
 pub some_is : {X : Type 0} (o : Option X) → is_some o ≡ true → (x : X) × (o ≡ Some x)
@@ -82,6 +82,25 @@ module _ (s : State) (q : ℕ) (u : Queue) (there : slice_get s.queues q ≡ Som
       ap (λ (o : Option Queue). is_some (with_queue o None (λ (v : Queue). find (possible s) (in_turn q v)))) there
       ∙ some_found (possible s) (in_turn q u)
       ∙ asks
+
+  can_land : (i : ℕ) → u.stopped ≡ false → oldest_unlanded u ≡ Some i → possible s (Land q i) ≡ true
+  can_land i runs e = sym (or_false (possible s (Land q i))) ∙ rw e at lands ∙ ap (λ (b : Bool). not b && true) runs
+
+  can_fetch : (i : ℕ) → least_unheld u ≡ Some i → possible s (Fetch q i) ≡ true
+  can_fetch i e = sym (or_false (possible s (Fetch q i))) ∙ rw e at fetches
+
+  module _ (runs : u.stopped ≡ false) (flies : is_landed (slice_get u.flights 0) ≡ false) where
+    no_completion : possible s (Complete q) ≡ false
+    unfolding possible
+    no_completion = rw (there, runs, flies) refl
+
+    -- what runs and has an unlanded request lands the oldest one, unless the oldest of all completes
+    pub lands_next : (i : ℕ) → oldest_unlanded u ≡ Some i → queue_action s q ≡ Some (Land q i)
+    lands_next i e = rw there (rw (no_completion, e, can_land i runs e) refl)
+
+    -- and where none flies and head can't start, the least unheld index is fetched
+    pub fetches_next : (i : ℕ) → oldest_unlanded u ≡ None → possible s (Start q) ≡ false → least_unheld u ≡ Some i → queue_action s q ≡ Some (Fetch q i)
+    fetches_next i none rests e = rw there (rw (no_completion, none, rests, e, can_fetch i e) refl)
 
 -- what the rules ask of a queue is what the adapter does
 pub acts_is_active : (s : State) (q : ℕ) → queue_acts s q ≡ with_queue (slice_get s.queues q) false (is_active s)

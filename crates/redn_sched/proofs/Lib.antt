@@ -7,10 +7,10 @@ pub mod BadLines
 mod Worked
 mod WorkedFair
 pub mod Turning
+pub mod ChainTurns
 pub mod Nearest
 pub mod Active
 pub mod Rows
-pub mod Choosing
 pub mod NoAction
 pub mod Possible
 pub mod Begun

@@ -1,15 +1,14 @@
 -- The first acting queue of a chain, looked for among those that may act.
-use Rattle.std.proofs.Common.{◌≡◌, ℕ, zero, suc, ◌+◌, ◌-◌, ◌%◌, ◌^◌, ◌<◌, ◌≤◌, ◌⊎◌, inl, inr, Bool, true, false, cond, ◌&&◌, ◌==◌, List, [], ◌∷◌, ◌++◌, Option, Some, None, length, get_or, take, refl, sym, ap, subst, ◌∙◌, arith}
-use Rattle.std.specs.Prelude.{nat_le, nat_lt, is_some, slice_get}
-use Rattle.std.specs.List.{All, Any, find, filter, list_any, range_with_len}
+use Rattle.std.proofs.Common.{◌≡◌, ℕ, zero, suc, ◌+◌, ◌^◌, ◌<◌, ◌≤◌, ◌⊎◌, inl, inr, Bool, true, false, cond, ◌&&◌, ◌==◌, List, [], Option, Some, None, length, get_or, take, refl, sym, ap, subst, ◌∙◌, arith}
+use Rattle.std.specs.Prelude.{nat_le, nat_lt, slice_get}
+use Rattle.std.specs.List.{All, Any, find, list_any, range_with_len}
 use Rattle.std.proofs.lemmas.Bool.{cases_lt, true≢false, and_parts, and_cases, and_from, or_cases, eq-eqb, eqb-true, le-leb, lt-ltb, ltb-false, ltb-true, leb-true}
 use Rattle.std.proofs.lemmas.List.Folds.{Any-from_list_any, list_any_at, list_any_more}
 use Rattle.std.proofs.lemmas.Option.{slice_get_within}
 use Rattle.redn_words.specs.States.{Queue, State}
-use Rattle.redn_adapter.specs.Quiet.{is_active}
 use Rattle.redn_adapter.specs.Busy.{IsQueueOf, HasActive}
 use Rattle.redn_sched.specs.MadeSchedules.{is_of, queues_of, cyclically, queue_acts}
-use Rattle.redn_sched.specs.Nearest.{turn_of, is_nearer, nearest}
+use Rattle.redn_sched.specs.Nearest.{distance, is_nearer, nearest}
 use Rattle.redn_sched.proofs.Turning.{find_filtered, found_on, found_below}
 use Rattle.redn_sched.proofs.Active.{acts_here}
 
@@ -49,7 +48,7 @@ pub record IsFirst (s : State) (c k : ℕ) (seen : List ℕ) (o : Option ℕ) : 
   pub acts : (q : ℕ) → o ≡ Some q → queue_acts s q ≡ true
   pub its : (q : ℕ) → o ≡ Some q → IsQueueOf s c q
   pub low : (q : ℕ) → o ≡ Some q → q < 2 ^ 32
-  pub least : (q : ℕ) → list_any (λ (r : ℕ). q == r) seen ≡ true → queue_acts s q ≡ true → (x : ℕ) × (o ≡ Some x) × (turn_of k x ≤ turn_of k q)
+  pub least : (q : ℕ) → list_any (λ (r : ℕ). q == r) seen ≡ true → queue_acts s q ≡ true → (x : ℕ) × (o ≡ Some x) × (distance k x ≤ distance k q)
 
 pub none_seen : (s : State) (c k : ℕ) → IsFirst s c k [] None
 none_seen s c k = record { acts = λ q e. absurd (cc); its = λ q e. absurd (cc); low = λ q e. absurd (cc); least = λ q e f. absurd (true≢false (sym e)) }
@@ -72,24 +71,24 @@ module _ (s : State) (c k : ℕ) (list : List ℕ) (i q : ℕ) (l : i < length l
         least = λ r e f. (q, refl, behind r f (seen_before r e));
       }
     where
-      nearer_than : (r x : ℕ) → o ≡ Some x → turn_of k x ≤ turn_of k r → turn_of k q ≤ turn_of k r
-      nearer_than r x e le = let less : turn_of k q < turn_of k x = ltb-true (turn_of k q) (turn_of k x) (sym (ap (is_nearer k q) e) ∙ near) in omega (arith, le, less)
+      nearer_than : (r x : ℕ) → o ≡ Some x → distance k x ≤ distance k r → distance k q ≤ distance k r
+      nearer_than r x e le = let less : distance k q < distance k x = ltb-true (distance k q) (distance k x) (sym (ap (is_nearer k q) e) ∙ near) in omega (arith, le, less)
 
-      behind : (r : ℕ) → queue_acts s r ≡ true → (list_any (λ (x : ℕ). r == x) (take i list) ≡ true) ⊎ (r ≡ q) → turn_of k q ≤ turn_of k r
+      behind : (r : ℕ) → queue_acts s r ≡ true → (list_any (λ (x : ℕ). r == x) (take i list) ≡ true) ⊎ (r ≡ q) → distance k q ≤ distance k r
       behind r f (inl e) = let y = h.least r e f in nearer_than r y.0 y.1 y.2
-      behind r f (inr e) = omega (arith, ap (turn_of k) e)
+      behind r f (inr e) = omega (arith, ap (distance k) e)
 
   left : (o : Option ℕ) → IsFirst s c k (take i list) o → (queue_acts s q ≡ true → is_nearer k q o ≡ false) → IsFirst s c k (take (i + 1) list) o
   left o h far = record { acts = h.acts; its = h.its; low = h.low; least = λ r e f. by_seen r f (seen_before r e) }
     where
-      by_found : (p : Option ℕ) → o ≡ p → is_nearer k q p ≡ false → (x : ℕ) × (o ≡ Some x) × (turn_of k x ≤ turn_of k q)
+      by_found : (p : Option ℕ) → o ≡ p → is_nearer k q p ≡ false → (x : ℕ) × (o ≡ Some x) × (distance k x ≤ distance k q)
       by_found None e f = absurd (true≢false f)
-      by_found (Some x) e f = (x, e, ltb-false (turn_of k q) (turn_of k x) f)
+      by_found (Some x) e f = (x, e, ltb-false (distance k q) (distance k x) f)
 
-      by_seen : (r : ℕ) → queue_acts s r ≡ true → (list_any (λ (x : ℕ). r == x) (take i list) ≡ true) ⊎ (r ≡ q) → (x : ℕ) × (o ≡ Some x) × (turn_of k x ≤ turn_of k r)
+      by_seen : (r : ℕ) → queue_acts s r ≡ true → (list_any (λ (x : ℕ). r == x) (take i list) ≡ true) ⊎ (r ≡ q) → (x : ℕ) × (o ≡ Some x) × (distance k x ≤ distance k r)
       by_seen r f (inl e) = h.least r e f
       by_seen r f (inr e) =
-          let y = by_found o refl (far (ap (queue_acts s) (sym e) ∙ f)) in (y.0, y.1, omega (arith, y.2, ap (turn_of k) e))
+          let y = by_found o refl (far (ap (queue_acts s) (sym e) ∙ f)) in (y.0, y.1, omega (arith, y.2, ap (distance k) e))
 
   pub one_more_seen : (o : Option ℕ) → IsFirst s c k (take i list) o → IsFirst s c k (take (i + 1) list) (nearest s k q o)
   one_more_seen o h =

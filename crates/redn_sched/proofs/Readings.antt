@@ -1,17 +1,16 @@
 -- Each line of a schedule is skipped, an action or bad, so each text is read.
-use Rattle.std.proofs.Common.{◌≡◌, ◌≢◌, ℕ, zero, suc, ◌+◌, ◌^◌, ◌<◌, Bool, true, false, List, [], ◌∷◌, ◌++◌, take, drop, decimal, inl, inr, refl, sym, ap, subst, ◌∙◌, arith, lit<}
+use Rattle.std.proofs.Common.{◌≡◌, ℕ, ◌+◌, ◌^◌, ◌<◌, Bool, true, false, List, [], ◌∷◌, ◌++◌, take, drop, decimal, inl, inr, refl, sym, ap, subst, ◌∙◌, arith}
 use Rattle.std.specs.Prelude.{◌⊎◌, Option, Some, None, codes, nat_eq}
 use Rattle.std.specs.List.{prefix_len}
 use Rattle.std.specs.Str.Parse.{digits_value}
 use Rattle.std.specs.Cmp.Lexicographic.{pointwise, bytes_decides}
 use Rattle.std.proofs.lemmas.Bool.{true≢false, cases_lt, cases_eq}
 use Rattle.std.proofs.lemmas.Fmt.{decimal_is_IsNumeral, decimal_injective}
-use Rattle.std.proofs.lemmas.List.{take-append-drop}
 use Rattle.redn_words.specs.declared.types.Action.{Action}
 use Rattle.redn_words.specs.declared.types.Action.TheVariants.{Deliver, Fetch, Start, Land, Complete}
 use Rattle.redn_sched.specs.declared.text.Numbered.{Numbered}
 use Rattle.redn_sched.specs.Lines.{is_not}
-use Rattle.redn_sched.specs.ScheduleText.{pair_text, action_text, IsAction, IsSkipped, IsBad, lines_of, Reads, Begins}
+use Rattle.redn_sched.specs.ScheduleText.{pair_text, action_text, IsAction, IsSkipped, lines_of, Reads, Begins}
 use Rattle.redn_sched.specs.Laws.{EachTextIsRead, EachTextIsReadOnce, BeginningsAreRead}
 use Rattle.redn_sched.proofs.Fields.{pair_split, front_of, behind_of}
 use Rattle.redn_sched.proofs.OneReading.{one_action, no_skipped_action, one_reading}

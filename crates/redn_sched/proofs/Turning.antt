@@ -1,6 +1,6 @@
 -- What is looked for from a cursor on, and then below it.
-use Rattle.std.proofs.Common.{◌≡◌, ℕ, zero, suc, ◌+◌, ◌-◌, ◌<◌, ◌≤◌, Bool, true, false, cond, ◌&&◌, ◌||◌, List, [], ◌∷◌, ◌++◌, Option, Some, None, refl, sym, ap, ◌∙◌, inl, inr, arith}
-use Rattle.std.specs.Prelude.{nat_le, nat_lt, is_some, IfSome}
+use Rattle.std.proofs.Common.{◌≡◌, ℕ, zero, suc, ◌+◌, ◌-◌, ◌<◌, ◌≤◌, Bool, true, false, cond, ◌&&◌, ◌||◌, List, [], ◌∷◌, ◌++◌, Some, None, refl, sym, ap, ◌∙◌, inl, inr, arith}
+use Rattle.std.specs.Prelude.{nat_le, nat_lt, is_some}
 use Rattle.std.specs.List.{find, filter, list_any, range_with_len}
 use Rattle.std.proofs.lemmas.Bool.{cases_lt, le-leb, lt-leb, lt-ltb, le-ltb}
 use Rattle.std.proofs.lemmas.List.Folds.{list_any-append}
@@ -124,7 +124,3 @@ module _ (p : ℕ → Bool) where
   none_with from x low none e =
       rw (range_split from (x + 1 - from) (x - from) 1 x (omega (arith, low)) (omega (arith, low)))
       (found_later p (range_with_len from (x - from)) (range_with_len x 1) none ∙ rw e refl)
-
-pub below_more : (o : Option ℕ) (k n : ℕ) → k ≤ n → IfSome o (λ c. c < k) → IfSome o (λ c. c < n)
-below_more None k n l h = h
-below_more (Some c) k n l h = omega (arith, l, h)

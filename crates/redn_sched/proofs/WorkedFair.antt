@@ -13,7 +13,8 @@ use Rattle.redn_words.specs.States.{State, start}
 use Rattle.redn_words.specs.Steps.{possible, after, may_start, started, counter_of}
 use Rattle.redn_sched.specs.MadeSchedules.{queues_of, cyclically, first_cursors, fair_next, fair_from, fair}
 use Rattle.redn_sched.specs.MadeView.{moved, followed_by}
-use Rattle.redn_sched.specs.Nearest.{turn_of}
+use Rattle.redn_sched.specs.Nearest.{distance}
+use Rattle.redn_sched.specs.ChainTurns.{IsTurn, IsTurnOf, with_cursor, turn_at, chain_turn}
 
 after_the_cursor : cyclically 3 (0 ∷ 2 ∷ 3 ∷ 5 ∷ []) ≡ 3 ∷ 5 ∷ 0 ∷ 2 ∷ []
 after_the_cursor = refl
@@ -98,8 +99,28 @@ no_move : moved (first_cursors message_and_queue) None ≡ first_cursors message
 no_move = refl
 
 -- from a cursor on, the queues below it come after all others
-turns_from_3 : map (turn_of 3) (3 ∷ 5 ∷ 0 ∷ 2 ∷ []) ≡ 0 ∷ 2 ∷ 4294967293 ∷ 4294967295 ∷ []
-turns_from_3 = refl
+distances_from_3 : map (distance 3) (3 ∷ 5 ∷ 0 ∷ 2 ∷ []) ≡ 0 ∷ 2 ∷ 4294967293 ∷ 4294967295 ∷ []
+distances_from_3 = refl
+
+-- A message comes, and the cursor stays at 3. Where the only queue of the chain has number 0, the cursor comes from 3 to it.
+a_message_comes : chain_turn message_and_queue 0 3 ≡ Some (with_cursor 3 (Deliver 0))
+unfolding ring no_message message_and_queue number spelled start possible
+a_message_comes = refl
+
+a_queue_acts : chain_turn message_and_queue 1 3 ≡ Some (with_cursor 0 (Fetch 0 0))
+unfolding ring no_message message_and_queue number spelled decoded encoded opcode_named access lands start possible after may_start started counter_of
+a_queue_acts = simp gets refl
+
+no_queue_acts : turn_at message_and_queue None ≡ None
+no_queue_acts = refl
+
+its_turn : IsTurn message_and_queue (Some (with_cursor 0 (Fetch 0 0)))
+unfolding ring no_message message_and_queue number spelled decoded encoded opcode_named access lands start possible after may_start started counter_of
+its_turn = simp gets refl
+
+turn_of_the_first : IsTurnOf message_and_queue (3 ∷ 0 ∷ []) (Some (0, with_cursor 3 (Deliver 0)))
+unfolding ring no_message message_and_queue number spelled start possible
+turn_of_the_first = refl
 
 rest_of_a_list : followed_by (Some (Deliver 0)) (λ a. a ∷ []) ≡ Deliver 0 ∷ Deliver 0 ∷ []
 rest_of_a_list = refl

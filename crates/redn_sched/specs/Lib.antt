@@ -6,4 +6,5 @@ pub mod Shuffles
 pub mod ShuffleView
 pub mod Pieces
 pub mod Nearest
+pub mod ChainTurns
 pub mod Laws

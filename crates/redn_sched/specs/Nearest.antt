@@ -4,12 +4,12 @@ use Rattle.redn_words.specs.States.{State}
 use Rattle.redn_sched.specs.MadeSchedules.{queue_acts}
 
 -- how far a queue comes behind a cursor, where those below the cursor come after all others
-abbrev pub turn_of : ℕ → ℕ → ℕ
-turn_of cursor queue = (queue + (2 ^ 32 - cursor)) % 2 ^ 32
+abbrev pub distance : ℕ → ℕ → ℕ
+distance cursor queue = (queue + (2 ^ 32 - cursor)) % 2 ^ 32
 
 abbrev pub is_nearer : ℕ → ℕ → Option ℕ → Bool
 is_nearer cursor queue None = true
-is_nearer cursor queue (Some other) = nat_lt (turn_of cursor queue) (turn_of cursor other)
+is_nearer cursor queue (Some other) = nat_lt (distance cursor queue) (distance cursor other)
 
 -- the one that comes first of a queue that may act and the one that was found so far
 abbrev pub nearest : State → ℕ → ℕ → Option ℕ → Option ℕ

@@ -5,9 +5,10 @@ ghost use Rattle.redn_words.specs.Steps.{after, is_useful, possible};
 ghost use Rattle.redn_words.specs.declared.types.Action.{Action};
 ghost use Rattle.redn_adapter.specs.Quiet.{IsQuiet};
 ghost use Rattle.redn_sched.specs.MadeView.{moved, followed_by};
+ghost use Rattle.redn_sched.specs.ChainTurns.{IsTurnOf};
 ghost use Rattle.redn_sched.specs.MadeSchedules.{cyclically, first_cursors, chain_acts, fair_next, fair_from};
 
-use crate::turns::{active_queue, chain_acts, first_cursors, queue_action};
+use crate::turns::{Turn, chain_turn, first_cursors};
 use redn_adapter::Adapter;
 use redn_words::{Action, Memory};
 use std::alloc::Global;
@@ -44,30 +45,32 @@ impl Fair {
         Ok(Fair { chain: 0, queues })
     }
 
-    /// The first of some chains that may be taken.
-    fn first_acting(&self, a: &Adapter, from: u32, to: u32) -> Option<u32>
-        requires there { to ≤ length a.now.state.chains }
-        ensures value { result ≡ find (chain_acts a.now.state) (range_with_len from (to - from)) }
-        ensures below { IfSome result (λ c. c < to) }
+    /// The first of some chains that may be taken, and what it does.
+    fn first_acting(&self, a: &Adapter, from: u32, to: u32) -> Option<(u32, Turn)>
+        requires there { to ≤ length self.now.queues }
+        ensures chain { option_map (λ p. p.0) result ≡ find (chain_acts a.now.state) (range_with_len from (to - from)) }
+        ensures turn { IsTurnOf a.now.state self.now.queues result }
+        ensures below { IfSome result (λ p. p.0 < to) }
     {
         for chain in from..to {
-            if chain_acts(a, chain) {
-                return Some(chain);
+            if let Some(turn) = chain_turn(a, chain, self.queues[chain as usize]) {
+                return Some((chain, turn));
             }
         }
         None
     }
 
-    /// The first chain from the cursor on, and then from the least on, that may be taken.
-    fn acting_chain(&self, a: &Adapter, count: u32) -> Option<u32>
+    /// The first chain from the cursor on, and then from the least on, that may be taken, and what it does.
+    fn acting_chain(&self, a: &Adapter, count: u32) -> Option<(u32, Turn)>
         requires many { length self.now.queues ≡ length a.now.state.chains }
         requires count { count ≡ length a.now.state.chains }
-        ensures value { result ≡ find (chain_acts a.now.state)
+        ensures chain { option_map (λ p. p.0) result ≡ find (chain_acts a.now.state)
             (cyclically self.now.chain (range_with_len 0 (length a.now.state.chains))) }
-        ensures there { IfSome result (λ c. c < length a.now.state.chains) }
+        ensures turn { IsTurnOf a.now.state self.now.queues result }
+        ensures there { IfSome result (λ p. p.0 < length a.now.state.chains) }
     {
         match self.first_acting(a, self.chain, count) {
-            Some(chain) => Some(chain),
+            Some(found) => Some(found),
             None => self.first_acting(a, 0, self.chain),
         }
     }
@@ -79,17 +82,10 @@ impl Fair {
         ensures action { result ≡ option_map (λ p. p.0) (fair_next a.now.state self.old) }
         ensures cursors { self.new ≡ moved self.old (fair_next a.now.state self.old) }
     {
-        let chain = self.acting_chain(a, count)?;
-        let delivery = Action::Deliver { chain };
-        if a.possible(delivery) {
-            self.chain = chain + 1;
-            return Some(delivery);
-        }
-        let queue = active_queue(a, chain, self.queues[chain as usize])?;
-        let action = queue_action(a, queue)?;
+        let (chain, turn) = self.acting_chain(a, count)?;
         self.chain = chain + 1;
-        self.queues[chain as usize] = queue;
-        Some(action)
+        self.queues[chain as usize] = turn.cursor;
+        Some(turn.action)
     }
 
     /// The next action, or none where no useful action is possible. The adapter is the one that the

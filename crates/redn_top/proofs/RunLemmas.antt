@@ -92,7 +92,7 @@ pub record Ran (first : Running) (acts : List Action) (k : ℕ) (now : Running) 
   pub state : now.state ≡ reached first.state acts
   pub text : told ≡ option_map (λ text. text ++ events_text first.state acts) before
 
-option_map-nothing : (told : Option (List ℕ)) → told ≡ option_map (λ text. text ++ []) told
+pub option_map-nothing : (told : Option (List ℕ)) → told ≡ option_map (λ text. text ++ []) told
 option_map-nothing None = refl
 option_map-nothing (Some text) = ap Some (sym (append-nil text))
 

@@ -50,11 +50,11 @@ fn put_event<K: Sink>(out: &mut K, shown: &Obs) -> Result<(), Status>
     ensures refused { IfErr result
         (PutRefused (event_text shown.now) (K.seen out.old) (K.seen out.new)) }
 {
-    let mut buf = [0; 256];
-    let len = event_line(shown, &mut buf);
-    if len == 0 {
+    if let Obs::Nothing = shown {
         return Ok(());
     }
+    let mut buf = [0; 256];
+    let len = event_line(shown, &mut buf);
     put(out, &buf[..len])
 }
 

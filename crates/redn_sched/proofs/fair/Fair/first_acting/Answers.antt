@@ -1,12 +1,18 @@
-use Rattle.std.proofs.Common.{sym, ◌∙◌}
+use Rattle.std.proofs.Common.{sym, ap, ◌∙◌}
+use Rattle.std.specs.Prelude.{is_some}
 use Rattle.redn_sched.specs.MadeSchedules.{chain_acts}
 use Rattle.redn_sched.proofs.Turning.{found_at, none_with}
+use Rattle.redn_sched.proofs.ChainTurns.{acts_next}
 use Rattle.redn_sched.proofs.fair.Fair.first_acting.Goals as goal
 
-pub returns-then-chain_acts-clause-value : goal.returns-then-chain_acts-clause-value
-returns-then-chain_acts-clause-value c =
-    sym (found_at (chain_acts c.args.a.now.state) c.args.from c.args.to c.loop-chain.chain c.loop-chain.auto.chain c.loop-chain-test.true c.loop-chain.invariant (sym c.chain_acts.ensures ∙ c.if-chain_acts.true))
+pub returns-in-Some-clause-chain : goal.returns-in-Some-clause-chain
+returns-in-Some-clause-chain c =
+    let s = c.args.a.now.state in
+    let acts = sym (acts_next s c.loop-chain.chain c.index.result.now) ∙ ap is_some (sym c.chain_turn.ensures ∙ c.in-Some.is) in
+    sym (found_at (chain_acts s) c.args.from c.args.to c.loop-chain.chain c.loop-chain.auto.chain c.loop-chain-test.true c.loop-chain.invariant acts)
 
 pub loop-chain-preserved : goal.loop-chain-preserved
 loop-chain-preserved c =
-    none_with (chain_acts c.args.a.now.state) c.args.from c.loop-chain.chain c.loop-chain.auto.chain c.loop-chain.invariant (sym c.chain_acts.ensures ∙ c.if-chain_acts.false)
+    let s = c.args.a.now.state in
+    let rests = sym (acts_next s c.loop-chain.chain c.index.result.now) ∙ ap is_some (sym c.chain_turn.ensures ∙ c.in_default.is) in
+    none_with (chain_acts s) c.args.from c.loop-chain.chain c.loop-chain.auto.chain c.loop-chain.invariant rests

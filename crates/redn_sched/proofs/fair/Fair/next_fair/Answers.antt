@@ -1,5 +1,5 @@
 use Rattle.std.proofs.Common.{length, sym, ap, ◌∙◌}
-use Rattle.redn_sched.specs.MadeSchedules.{Cursors, fair_next}
+use Rattle.redn_sched.specs.MadeSchedules.{Cursors}
 use Rattle.redn_sched.proofs.Rows.{chains_stay}
 use Rattle.redn_sched.proofs.Possible.{next_possible, next_useful}
 use Rattle.redn_sched.proofs.NoAction.{none_acts, moved_many}
