@@ -1,5 +1,5 @@
-//! A plain emulator of the adapter, written from docs/formats.md and docs/definitions.md without the code in crates/. Nothing is
-//! proved of it. bench/compare-runs holds what `redn run` prints against what it prints, and its speed is one to compare with.
+//! A plain emulator of the adapter, by docs/formats.md and docs/definitions.md. It shares no code with crates/, and nothing is proved
+//! of it. bench/compare-runs holds what `redn run` prints against what it prints, and its speed is one to compare with.
 //!
 //! usage: plain_emulator IMAGE --fair N [CHAIN=HEX ..]
 //!        plain_emulator IMAGE --schedule FILE [CHAIN=HEX ..]
