@@ -4,9 +4,11 @@ use Rattle.std.specs.FinMap as finite
 use Rattle.std.specs.FinMap.{gets}
 use Rattle.redn_outside.specs.Counts.{one_more, Rose, NeverFalls}
 use Rattle.redn_outside.specs.Files.{Files, file_at, with_file, told_at, OthersStay}
+use Rattle.redn_outside.specs.Calls.{Call, Reads, Writes, and_calls, calls_of_read, calls_of_write}
+use Rattle.redn_outside.specs.JournalState.{call_by, parts_of}
 use Rattle.redn_outside.specs.Reads as reads
 use Rattle.redn_outside.specs.Writes as writes
-use Rattle.redn_outside.specs.StoreCounts.{no_answers, counts_after_read}
+use Rattle.redn_outside.specs.StoreCounts.{no_answers, counts_after_read, AreCounts}
 use Rattle.redn_outside.specs.StoreState.{StoreState, empty_store, NextFails, after_read, after_write}
 use Rattle.redn_outside.specs.SinkState.{SinkState, empty_sink, Fits, after_put, after_fault, half}
 use Rattle.redn_outside.specs.declared.store.ReadFault.{ReadFault}
@@ -164,3 +166,22 @@ three_fit_not fits = omega (arith, fits)
 
 half_of_one : half (7 ∷ []) ≡ []
 half_of_one = refl
+
+-- a read of "a" was answered, a read of "b" wanted memory, and a write of "b" failed: two calls are told
+abbrev told_calls : Option (List Call)
+told_calls = and_calls (calls_of_write {T = ℕ} (codes "b") (Err write.Failed)) (and_calls (calls_of_read {T = ℕ} (codes "b") 9 (Err read.Memory)) (and_calls (calls_of_read (codes "a") 9 bytes_of_a) (Some [])))
+
+two_calls : told_calls ≡ Some (Reads (codes "a") 9 ∷ Writes (codes "b") ∷ [])
+two_calls = refl
+
+missing_and_long_are_calls : calls_of_read {T = ℕ} (codes "a") 9 (Err read.Missing) ≡ calls_of_read {T = ℕ} (codes "a") 9 (Err (read.Long 10))
+missing_and_long_are_calls = refl
+
+calls_untold : and_calls (calls_of_write (codes "a") done) None ≡ None
+calls_untold = refl
+
+kept_apart : call_by (parts_of (Writes (codes "a"))).0 (parts_of (Writes (codes "a"))).1 ≡ Writes (codes "a")
+kept_apart = refl
+
+first_counts : AreCounts no_answers
+first_counts = record { read_faults = lit< tt; write_faults = lit< tt; long_answers = lit< tt; missing_answers = lit< tt }

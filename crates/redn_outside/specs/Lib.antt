@@ -1,10 +1,13 @@
 pub mod Counts
 pub mod Files
+pub mod Calls
 pub mod Reads
 pub mod Writes
 pub mod StoreCounts
 pub mod Seen
 pub mod StoreState
 pub mod StoreView
+pub mod JournalState
+pub mod JournalView
 pub mod SinkState
 pub mod SinkView

@@ -2,10 +2,12 @@
 use Rattle.std.specs.Prelude.{◌≡◌, ℕ, Bool, true, false, List, Option}
 use Rattle.redn_outside.specs.Counts.{Rose, NeverFalls}
 use Rattle.redn_outside.specs.Files.{Files, OthersStay}
+use Rattle.redn_outside.specs.Calls.{Call}
 use Rattle.redn_outside.specs.declared.counts.StoreCounts.{StoreCounts}
 
 pub record StoreSeen : Type 0 where
   pub told : Option Files  -- what it holds, or None where it doesn't tell
+  pub calls : Option (List Call)  -- those answered so far, or None where it doesn't tell
   pub counts : StoreCounts
   pub reliable : Bool  -- no call of it ever fails
 

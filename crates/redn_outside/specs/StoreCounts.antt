@@ -1,5 +1,5 @@
 -- The counts of a store, and what a call makes of them.
-use Rattle.std.specs.Prelude.{Result, Ok, Err}
+use Rattle.std.specs.Prelude.{◌^◌, ◌<◌, Result, Ok, Err}
 use Rattle.redn_outside.specs.Counts.{one_more, NeverFalls}
 use Rattle.redn_outside.specs.declared.counts.StoreCounts.{StoreCounts}
 use Rattle.redn_outside.specs.declared.store.ReadFault.{ReadFault}
@@ -31,3 +31,10 @@ pub record ReadCountsNeverFall (before now : StoreCounts) : Type 0 where
   pub read_faults : NeverFalls before.read_faults now.read_faults
   pub long_answers : NeverFalls before.long_answers now.long_answers
   pub missing_answers : NeverFalls before.missing_answers now.missing_answers
+
+-- each count is a u64
+pub record AreCounts (c : StoreCounts) : Type 0 where
+  pub read_faults : c.read_faults < 2 ^ 64
+  pub write_faults : c.write_faults < 2 ^ 64
+  pub long_answers : c.long_answers < 2 ^ 64
+  pub missing_answers : c.missing_answers < 2 ^ 64

@@ -13,7 +13,8 @@ use std::alloc::Global;
 use std::collections::BTreeMap;
 use std::marker::Model;
 
-/// A store in memory, whose calls fail where they are told to.
+/// A store in memory, whose calls fail where they are told to. It tells what it holds, and not
+/// which calls it answered; a `Journal` over it tells both.
 #[derive(Debug, Drop)]
 pub struct MemStore {
     alloc: Global,
@@ -88,7 +89,7 @@ fn put_file(
 }
 
 impl Store for MemStore {
-    ghost seen = { λ s. record { told = Some s.files; counts = s.counts; reliable = fails_nowhere s.fail } };
+    ghost seen = { λ s. record { told = Some s.files; calls = None; counts = s.counts; reliable = fails_nowhere s.fail } };
 
     fn read(&mut self, alloc: Global, name: &str, limit: u64) -> Result<Vec<u8>, ReadFault>
         requires { limit < 2 ^ 64 - 1 }

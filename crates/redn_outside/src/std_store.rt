@@ -13,7 +13,7 @@ use std::{fs, io};
 
 const CHUNK: usize = 8192;
 
-/// The files of the system. It does not tell what they hold.
+/// The files of the system. It tells neither what they hold nor which calls it answered.
 #[derive(Drop)]
 pub struct StdStore<'a, R: Files> {
     rt: &'a R,
@@ -41,7 +41,7 @@ impl<'a, R: Files> StdStore<'a, R> {
 }
 
 impl<'a, R: Files> Store for StdStore<'a, R> {
-    ghost seen = { λ s. record { told = None; counts = s; reliable = false } };
+    ghost seen = { λ s. record { told = None; calls = None; counts = s; reliable = false } };
 
     fn read(&mut self, alloc: Global, name: &str, limit: u64) -> Result<Vec<u8>, ReadFault>
         requires { limit < 2 ^ 64 - 1 }

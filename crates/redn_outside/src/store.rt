@@ -1,9 +1,5 @@
 ghost use Rattle.std.specs.Prelude.{◌≡◌, ◌+◌, ◌-◌, ◌^◌, ◌<◌, ◌≤◌, None, Some, length, IfOk, IfSome, OnOk, IsSomeAnd};
 ghost use Rattle.std.specs.Option.{option_map};
-ghost use Rattle.redn_outside.specs.Files.{file_at, with_file};
-ghost use Rattle.redn_outside.specs.Seen.{StoreSeen, KeepsFiles, KeepsOthers, ReadFailed, WriteFailed, MissingRose, LongRose};
-ghost use Rattle.redn_outside.specs.Reads as reads;
-ghost use Rattle.redn_outside.specs.Writes as writes;
 
 use std::alloc::Global;
 
@@ -29,12 +25,28 @@ pub enum WriteFault {
     Memory,
 }
 
+/// A call of a store that was answered. One that wanted memory is none.
+#[derive(Debug, Drop)]
+pub enum StoreCall {
+    /// The file under a name was read, of at most `limit` bytes.
+    Read { name: String, limit: u64 },
+    /// A file was written under a name.
+    Write { name: String },
+}
+
 /// Files under names.
 ///
 /// A store counts its failed reads, its failed writes, the files that were too long and those that
 /// were missing. Each count is a `u64` that never falls and stays at its greatest value.
 pub trait Store {
-    // What it holds where it tells, its counts, and whether no call of it ever fails.
+    ghost use Rattle.redn_outside.specs.Calls.{and_calls, calls_of_read, calls_of_write};
+    ghost use Rattle.redn_outside.specs.Files.{file_at, with_file};
+    ghost use Rattle.redn_outside.specs.Seen.{StoreSeen, KeepsFiles, KeepsOthers, ReadFailed, WriteFailed, MissingRose, LongRose};
+    ghost use Rattle.redn_outside.specs.Reads as reads;
+    ghost use Rattle.redn_outside.specs.Writes as writes;
+
+    // What it holds and which calls it answered, where it tells, its counts, and whether no call
+    // of it ever fails.
     ghost seen: { Self → StoreSeen };
 
     /// The file under a name, of at most `limit` bytes.
@@ -43,6 +55,8 @@ pub trait Store {
 
         // Whatever it answers.
         ensures stays { KeepsFiles (seen self.old) (seen self.new) }
+        ensures calls { (seen self.new).calls
+            ≡ and_calls (calls_of_read name.now limit result) (seen self.old).calls }
 
         // Each answer and its cause.
         ensures at_most_limit { IfOk result (λ bytes. length bytes.items ≤ limit) }
@@ -62,6 +76,8 @@ pub trait Store {
     fn write(&mut self, alloc: Global, name: &str, bytes: &[u8]) -> Result<(), WriteFault>
         // Whatever it answers.
         ensures stays { KeepsOthers name.now (seen self.old) (seen self.new) }
+        ensures calls { (seen self.new).calls
+            ≡ and_calls (calls_of_write name.now result) (seen self.old).calls }
 
         // Each answer and its cause. After `Failed` it is open what is held under the name.
         ensures ok { OnOk result ((seen self.new).told

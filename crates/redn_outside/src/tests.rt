@@ -1,4 +1,6 @@
-use crate::{Failed, MemSink, MemStore, ReadFault, Sink, StdSink, StdStore, Store, WriteFault};
+use crate::{
+    Failed, Journal, MemSink, MemStore, ReadFault, Sink, StdSink, StdStore, Store, WriteFault,
+};
 use std::alloc::{Allocator, Global};
 use std::cell::Cell;
 use std::fmt::Display;
@@ -43,6 +45,19 @@ fn a_store_in_memory_holds_what_is_added_and_written(rt: HostRuntime) -> Result<
         store.read(alloc, "a", 2).err(),
         Some(ReadFault::Long { seen: 3 })
     );
+    Ok(())
+}
+
+#[test]
+fn a_journal_tells_the_calls_of_its_store(rt: HostRuntime) -> Result<(), Fail> {
+    let alloc = rt.alloc();
+    let mut store = MemStore::new(alloc, Vec::new(alloc));
+    store.add("a", &[1])?;
+    let mut journal = Journal::new(alloc, store);
+    let read = journal.read(alloc, "a", 3)?;
+    journal.write(alloc, "b", read.as_slice())?;
+    assert_eq!(rt; journal.read(alloc, "b", 3)?.as_slice(), [1].as_slice());
+    assert_eq!(rt; journal.calls().len(), 3);
     Ok(())
 }
 
