@@ -21,122 +21,11 @@ use Rattle.redn_graph.specs.Run.{GraphState, GraphTurn, Effect, Way, On, Taking,
 use Rattle.redn_graph.specs.Follows.{Follows, IsMatched, turn_by, chain_start}
 use Rattle.redn_graph.specs.Along.{state_along}
 use Rattle.redn_graph.specs.Fits.{Things, FitsEnd, FitsBlock, FitsGraph, things_of}
-use Rattle.redn_graph.specs.Silence.{Feed, seen_then, chain_turn, chain_after, chain_seen, graph_seen, EqualUpToSilence}
+use Rattle.redn_kernel.specs.Feeds.{Feed, seen_then, chain_after, chain_seen}
+use Rattle.redn_kernel.proofs.Feeds.{bool_or, zero_or, ended_stops, fed, stopped, GoesBehind, ShowsNoMore, behind}
+use Rattle.redn_graph.specs.Silence.{graph_seen, EqualUpToSilence}
 use Rattle.redn_graph.proofs.Places.{goes_on_or_out}
-use Rattle.redn_graph.proofs.Quiet.{is_nothing, nothing_or, not_nothing, goes_on, Quiet, quiet_run, quiet_vars, Loud, split, running_turn, seen_step, after_step, quiet_seen, quiet_after, first_content, content_step, Remains, remains}
-
-bool_or : (b : Bool) → (b ≡ true) ⊎ (b ≡ false)
-bool_or true = inl refl
-bool_or false = inr refl
-
-zero_or : (n : ℕ) → (n ≡ 0) ⊎ (1 ≤ n)
-zero_or zero = inl refl
-zero_or (suc n) = inr (omega arith)
-
-ended_stops : (t : ChainState) → t.ended ≡ true → chain_runs t ≡ false
-ended_stops t e = by_message t.message
-  where
-    by_message : (m : Option (List ℕ)) → (is_some m && not t.ended) ≡ false
-    by_message None = refl
-    by_message (Some words) = ap not e
-
--- what a step of the blocks is seen to do some feed of the chain is
-record Fed (c : ℕ) (tables : List (List ℕ)) (t : ChainState) (turn : Turn) (feed : Feed) : Type 0 where
-  pub whole : Feed
-  pub seen : chain_seen c whole t ≡ seen_then tables turn.event (chain_seen c feed turn.chain)
-  pub after : chain_after c whole t ≡ chain_after c feed turn.chain
-
-fed : (c n : ℕ) (tables : List (List ℕ)) (t : ChainState) (turn : Turn) (feed : Feed) → Steps c tables t n turn → Fed c tables t turn feed
-fed c n tables t turn feed steps =
-    elim (split c n tables t turn steps) [
-      | inl quiet ↦ record {
-        whole = replicate n tables ++ feed;
-        seen = quiet_seen c n tables feed t turn.chain quiet.0 ∙ sym (ap (λ (e : Obs). seen_then tables e (chain_seen c feed turn.chain)) quiet.1);
-        after = quiet_after c n tables feed t turn.chain quiet.0;
-      }
-      | inr loud ↦
-          let rest : Feed = replicate loud.after tables ++ feed in
-          let does : Turn = first_does c tables loud.mid loud.mid.items in
-          let is = running_turn c tables loud.mid loud.running in
-          record {
-            whole = replicate loud.before tables ++ (tables ∷ rest);
-            seen =
-                quiet_seen c loud.before tables (tables ∷ rest) t loud.mid loud.quiet ∙ seen_step c tables rest loud.mid does is
-                ∙ ap (seen_then tables does.event) (quiet_seen c loud.after tables feed does.chain turn.chain loud.rest)
-                ∙ ap (λ (e : Obs). seen_then tables e (chain_seen c feed turn.chain)) (sym loud.shown);
-            after = quiet_after c loud.before tables (tables ∷ rest) t loud.mid loud.quiet ∙ after_step c tables rest loud.mid does is ∙ quiet_after c loud.after tables feed does.chain turn.chain loud.rest;
-          }
-    ]
-
--- a chain that isn't running stays as it is
-stopped : (c : ℕ) (feed : Feed) (t : ChainState) → chain_runs t ≡ false → (chain_seen c feed t ≡ []) × (chain_after c feed t ≡ t)
-stopped c [] t e = (refl, refl)
-stopped c (tables ∷ feed) t e =
-    let is : chain_turn c tables t ≡ unchanged tables t = ap (λ (b : Bool). if b then first_does c tables t t.items else unchanged tables t) e in
-    let more = stopped c feed t e in
-    (seen_step c tables feed t _ is ∙ more.0, after_step c tables feed t _ is ∙ more.1)
-
--- a feed of the chain goes on behind a step of the blocks on the contents of its first step that shows something, or shows nothing more
-record GoesBehind (c n : ℕ) (feed : Feed) (t : ChainState) (turn : Turn) : Type 0 where
-  pub feed_left : Feed
-  pub seen : chain_seen c feed t ≡ seen_then (first_content c feed t) turn.event (chain_seen c feed_left turn.chain)
-  pub vars : (chain_after c feed t).vars ≡ (chain_after c feed_left turn.chain).vars
-  pub shorter : length feed_left ≤ length feed
-  pub less : 1 ≤ n → 1 ≤ length feed → length feed_left < length feed
-
-abbrev ShowsNoMore : ℕ → Feed → ChainState → Type 0
-ShowsNoMore c feed t = (chain_seen c feed t ≡ []) × ((chain_after c feed t).vars ≡ t.vars)
-
-module _ (c n : ℕ) (feed : Feed) (t : ChainState) (turn : Turn) where
-  abbrev best : List (List ℕ)
-  best = first_content c feed t
-
-  past_loud : (loud : Loud c best t n turn) (r : Remains c loud.before feed t loud.mid) (left : Feed) → r.feed_left ≡ left → GoesBehind c n feed t turn ⊎ ShowsNoMore c feed t
-  past_loud loud r [] is =
-      inr (r.seen ∙ ap (λ (list : Feed). chain_seen c list loud.mid) is, r.vars ∙ ap (λ (list : Feed). (chain_after c list loud.mid).vars) is ∙ quiet_vars c loud.before t loud.mid loud.quiet)
-  past_loud loud r (tables ∷ left) is =
-      let does : List (List ℕ) → Turn = λ list. first_does c list loud.mid loud.mid.items in
-      let runs = running_turn c tables loud.mid loud.running in
-      let loud_there : is_nothing (does tables).event ≡ false =
-      elim (nothing_or (does tables).event) [
-        | inr other ↦ other
-        | inl none ↦
-            let go = goes_on c tables loud.mid loud.mid.items none in
-            not_nothing turn.event loud.loud (loud.shown ∙ ap (λ (u : Turn). u.event) (go.same best))
-      ]
-      in
-      let same : best ≡ tables =
-      r.content ∙ ap (λ (list : Feed). first_content c list loud.mid) is ∙ content_step c tables left loud.mid _ runs ∙ ap (λ (b : Bool). if b then first_content c left (does tables).chain else tables) loud_there
-      in
-      let quiet = subst (λ (list : List (List ℕ)). Quiet c loud.after (does list).chain turn.chain) same loud.rest in
-      let rest = remains c loud.after left (does tables).chain turn.chain quiet in
-      let fewer : length (tables ∷ left) ≤ length feed = subst (λ (list : Feed). length list ≤ length feed) is r.shorter in
-      inl (record {
-        feed_left = rest.feed_left;
-        seen =
-            r.seen ∙ ap (λ (list : Feed). chain_seen c list loud.mid) is ∙ seen_step c tables left loud.mid _ runs
-            ∙ ap (seen_then tables (does tables).event) rest.seen
-            ∙ ap (λ (list : List (List ℕ)). seen_then list (does list).event (chain_seen c rest.feed_left turn.chain)) (sym same)
-            ∙ ap (λ (e : Obs). seen_then best e (chain_seen c rest.feed_left turn.chain)) (sym loud.shown);
-        vars = r.vars ∙ ap (λ (list : Feed). (chain_after c list loud.mid).vars) is ∙ ap (λ (v : ChainState). v.vars) (after_step c tables left loud.mid _ runs) ∙ rest.vars;
-        shorter = omega (arith, rest.shorter, fewer);
-        less = λ some h. omega (arith, rest.shorter, fewer);
-      })
-
-  behind : Steps c best t n turn → GoesBehind c n feed t turn ⊎ ShowsNoMore c feed t
-  behind steps =
-      elim (split c n best t turn steps) [
-        | inl quiet ↦
-            let r = remains c n feed t turn.chain quiet.0 in
-            inl (record {
-              feed_left = r.feed_left;
-              seen = r.seen ∙ sym (ap (λ (e : Obs). seen_then best e (chain_seen c r.feed_left turn.chain)) quiet.1);
-              vars = r.vars;
-              shorter = r.shorter;
-              less = r.less;
-            })
-        | inr loud ↦ let r = remains c loud.before feed t loud.mid loud.quiet in past_loud loud r r.feed_left refl
-      ]
+use Rattle.redn_kernel.proofs.Quiet.{is_nothing, not_nothing, quiet_run, later_vars, first_content, remains}
 
 module _ (tables_of : List TableInit) (chain : ChainInit) (g : Graph) (f : Follows chain g) (fits : FitsGraph tables_of chain g) (c : ℕ) (words : List ℕ) where
   abbrev here : GraphState → ChainState
@@ -259,8 +148,8 @@ module _ (tables_of : List TableInit) (chain : ChainInit) (g : Graph) (f : Follo
     pub seen : graph_seen c words g other x ≡ chain_seen c feed (here x)
     pub vars : (state_along c words g other x).cells.vars ≡ (chain_after c feed (here x)).vars
 
-  answer_none : (x : GraphState) (feed : Feed) → ShowsNoMore c feed (here x) → Answer x feed
-  answer_none x feed h = record { other = []; seen = sym h.0; vars = sym (f.vars words x) ∙ sym h.1 }
+  answer_none : (x : GraphState) (feed : Feed) → chain_seen c feed (here x) ≡ [] → (chain_after c feed (here x)).vars ≡ (here x).vars → Answer x feed
+  answer_none x feed seen vars = record { other = []; seen = sym seen; vars = sym (f.vars words x) ∙ sym vars }
 
   answer_more : (x : GraphState) (feed : Feed) (n : ℕ) → (b : GoesBehind c n feed (here x) (turn_by here (graph_step c words (first_content c feed (here x)) x g))) → Answer (graph_step c words (first_content c feed (here x)) x g).state b.feed_left → Answer x feed
   answer_more x feed n b a =
@@ -268,14 +157,14 @@ module _ (tables_of : List TableInit) (chain : ChainInit) (g : Graph) (f : Follo
       record {
         other = tables ∷ a.other;
         seen = ap (seen_then tables (graph_step c words tables x g).event) a.seen ∙ sym b.seen;
-        vars = a.vars ∙ sym b.vars;
+        vars = a.vars ∙ sym (later_vars c _ _ b.later);
       }
 
   answer_ended : (x : GraphState) (feed : Feed) → x.ended ≡ true → Answer x feed
   answer_ended x feed over =
       let not_running : chain_runs (here x) ≡ false = ended_stops (here x) (f.ended words x ∙ over) in
       let s = stopped c feed (here x) not_running in
-      answer_none x feed (s.0, ap (λ (t : ChainState). t.vars) s.1)
+      answer_none x feed s.0 (ap (λ (t : ChainState). t.vars) s.1)
 
   abbrev Shorter : ℕ → Type 0
   Shorter k = (x : GraphState) (feed : Feed) → x.block < count → length feed < k → Answer x feed
@@ -295,7 +184,7 @@ module _ (tables_of : List TableInit) (chain : ChainInit) (g : Graph) (f : Follo
       let next = (graph_step c words tables x g).state in
       let there = next_within tables x going at in
       elim (behind c m.count feed (here x) (turn_by here (graph_step c words tables x g)) m.steps) [
-        | inr no_more ↦ answer_none x feed no_more
+        | inr no_more ↦ answer_none x feed no_more.seen no_more.vars
         | inl b ↦
             elim (zero_or m.count) [
               | inr moves ↦ answer_more x feed m.count b (shorter next b.feed_left there (omega (arith, b.less moves some, few)))
@@ -309,7 +198,7 @@ module _ (tables_of : List TableInit) (chain : ChainInit) (g : Graph) (f : Follo
 
   answer_at : (k : ℕ) → Shorter k → (w : ℕ) (x : GraphState) (feed : Feed) → x.block < count → length feed ≤ k → f.worth x < w → Answer x feed
   answer_at k shorter zero x feed at few worth = absurd (omega (arith, worth))
-  answer_at k shorter (suc w) x [] at few worth = answer_none x [] (refl, refl)
+  answer_at k shorter (suc w) x [] at few worth = answer_none x [] refl refl
   answer_at k shorter (suc w) x (tables ∷ feed) at few worth =
       elim (ended_or x) [
         | inl over ↦ answer_ended x (tables ∷ feed) over
@@ -331,7 +220,7 @@ module _ (tables_of : List TableInit) (chain : ChainInit) (g : Graph) (f : Follo
       let quiet = quiet_run c start.0 [] (chain_start chain words) (unchanged [] (here first)) start.1 refl in
       let r = remains c start.0 feed (chain_start chain words) (here first) quiet in
       let a = answer (suc (length r.feed_left)) first r.feed_left fits.entry (omega arith) in
-      (a.other, a.seen ∙ sym r.seen, a.vars ∙ sym r.vars)
+      (a.other, a.seen ∙ sym r.seen, a.vars ∙ sym (later_vars c _ _ r.later))
 
   -- a feed of the chain for one of the blocks
   record Follower (x : GraphState) (feed : Feed) : Type 0 where

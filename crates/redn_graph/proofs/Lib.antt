@@ -14,7 +14,6 @@ pub mod Fits
 pub mod Whole
 pub mod Lists
 pub mod Worked
-pub mod Quiet
 pub mod Equal
 pub mod Renumbering
 pub mod Finding
@@ -31,3 +30,4 @@ mod CoreSteps
 mod CoreCode
 mod CoreMade
 mod CoreSearches
+pub mod Repeats

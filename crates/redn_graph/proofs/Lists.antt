@@ -13,6 +13,8 @@ use Rattle.redn_graph.specs.Slots.{SlotsWithin, Sized}
 use Rattle.redn_graph.specs.Onward.{LeadsOn}
 use Rattle.redn_graph.proofs.LeadingOn.{leads_same, onward_then, onward_as, one_idle, one_breaks, idle_joined, breaks_joined}
 use Rattle.redn_graph.specs.Growth.{Grown, AllSound, IsSoundOne}
+use Rattle.redn_graph.specs.Hidden.{repeats_in, repeats_in_all}
+use Rattle.redn_graph.proofs.Repeats.{repeats_first}
 use Rattle.redn_graph.specs.Fits.{Things, FitsTail, Fitted, IsWithin, IsWell, AllWell}
 use Rattle.redn_graph.proofs.Building.{compiles_none, compiles_list}
 use Rattle.redn_graph.proofs.Fits.{fitted_none, fitted_then, within_before}
@@ -23,6 +25,7 @@ pub record Listed (old new : Builder) (exit : ℕ) (before : Tail) (body : List 
   pub compiles : Compiles old.blocks new.blocks old.hidden exit body before after
   pub slots : SlotsWithin old.blocks new.blocks before after (37 * weight_of_all body)
   pub grown : Grown old new (weight_of_all body)
+  pub hidden : new.hidden ≡ old.hidden + repeats_in_all body
   pub fits : (n : Things) → IsWithin n new → exit < n.blocks → AllWell n body → FitsTail n before → Fitted n old.blocks new.blocks × FitsTail n after
   pub size : Sized old.blocks new.blocks before after (weight_of_all body)
   pub leads : exit < length old.blocks → LeadsOn old.blocks new.blocks exit before after (is_idle_body body) (breaks_idly body)
@@ -32,6 +35,7 @@ listed_none b exit t = record {
   compiles = compiles_none b.blocks b.hidden exit t;
   slots = omega arith;
   grown = record { more = omega arith; cells = omega arith; longer = omega arith; blocks = omega arith };
+  hidden = omega arith;
   fits = λ n within there all tail. (fitted_none n b.blocks, tail);
   size = λ size most some fits room small. (small, omega (arith, fits));
   leads = λ there. leads_same b.blocks exit t false;
@@ -53,6 +57,7 @@ listed_more {old = old} {mid = mid} {exit = exit} {before = before} {behind = be
         longer = omega (arith, x.grown, y.grown);
         blocks = omega (arith, x.grown, y.grown, whole, alone);
       };
+      hidden = omega (arith, x.hidden, y.hidden, repeats_first first rest, repeats_first first []);
       fits = λ n within there all tail.
           let earlier = within_before n mid _ y.grown.longer y.grown.more within in
           let p = x.fits n earlier there (All-tail (IsWell n) first rest all) tail in
@@ -69,15 +74,16 @@ listed_more {old = old} {mid = mid} {exit = exit} {before = before} {behind = be
           onward_as (idle_joined i.is_idle (is_idle_body rest)) (breaks_joined i.is_break i.is_idle (breaks_idly rest)) (onward_then all there p q);
     }
 
-pub listed_one : {mid new : Builder} {exit : ℕ} {behind after : Tail} (first : Kernel) → Compiles mid.blocks new.blocks mid.hidden exit (first ∷ []) behind after → SlotsWithin mid.blocks new.blocks behind after (37 * weight_of first) → Grown mid new (weight_of first) →
+pub listed_one : {mid new : Builder} {exit : ℕ} {behind after : Tail} (first : Kernel) → Compiles mid.blocks new.blocks mid.hidden exit (first ∷ []) behind after → SlotsWithin mid.blocks new.blocks behind after (37 * weight_of first) → Grown mid new (weight_of first) → new.hidden ≡ mid.hidden + repeats_in first →
     ((n : Things) → IsWithin n new → exit < n.blocks → IsWell n first → FitsTail n behind → Fitted n mid.blocks new.blocks × FitsTail n after) → Sized mid.blocks new.blocks behind after (weight_of first) →
     (exit < length mid.blocks → LeadsOn mid.blocks new.blocks exit behind after (idles_of first).is_idle (idles_of first).is_break) → Listed mid new exit behind (first ∷ []) after
-listed_one {mid = mid} {new = new} {behind = behind} {after = after} first compiles slots grown fits size leads =
+listed_one {mid = mid} {new = new} {behind = behind} {after = after} first compiles slots grown hidden fits size leads =
     let alone : weight_of first ≡ weight_of_all (first ∷ []) = omega (arith, weight_first first []) in
     record {
       compiles = compiles;
       slots = omega (arith, slots, alone);
       grown = subst (λ (w : ℕ). Grown mid new w) alone grown;
+      hidden = omega (arith, hidden, repeats_first first []);
       fits = λ n within there all tail. fits n within there (All-head (IsWell n) first [] all) tail;
       size = subst (λ (w : ℕ). Sized mid.blocks new.blocks behind after w) alone size;
       leads = λ there all among. let i = idles_of first in onward_as (one_idle i.is_idle) (one_breaks i.is_break (i.is_idle && false)) (leads there all among);

@@ -21,6 +21,8 @@ use Rattle.redn_graph.specs.declared.types.End.TheVariants as e
 use Rattle.redn_graph.specs.declared.types.Block.{Block}
 use Rattle.redn_graph.specs.declared.types.Graph.{Graph}
 use Rattle.redn_graph.specs.Statements.{is_plain, is_search}
+use Rattle.redn_graph.specs.Hidden.{hidden_cells}
+use Rattle.redn_graph.proofs.Repeats.{repeats_in_if, repeats_in_loop, repeats_in_repeat, none_in_break, none_in_reply, none_in_lookup}
 use Rattle.redn_graph.specs.Run.{GraphState, graph_step, graph_start, instr_does, end_does}
 
 -- what n steps of chain 0 show, each on the tables that the one before left
@@ -162,3 +164,10 @@ a_walk_is_a_search = (refl, refl)
 a_break_is_neither : (is_plain s.Break ≡ false) × (is_search s.Break ≡ false)
 unfolding out-Kernel carrier.out shown-the_row-Kernel-0 carrier.shown carrier.hidden
 a_break_is_neither = (refl, refl)
+
+-- repeat 3 { repeat 2 { } lookup .. } if { repeat 2 { } } else { }: two for searches, and one for each of the three repeats
+hidden_cells_of_repeats : hidden_cells (s.Repeat 3 (s.Repeat 2 [] ∷ s.Lookup 0 0 (word.Num 0) (word.Num 7) 2 ∷ []) ∷ s.If true (word.Num 0) (word.Num 0) (s.Repeat 2 [] ∷ []) [] ∷ []) ≡ 5
+hidden_cells_of_repeats = simp (repeats_in_repeat, repeats_in_if, none_in_lookup) refl
+
+hidden_cells_of_no_repeat : hidden_cells (s.Loop (s.Break ∷ []) ∷ s.Reply [] ∷ []) ≡ 2
+hidden_cells_of_no_repeat = simp (repeats_in_loop, none_in_break, none_in_reply) refl

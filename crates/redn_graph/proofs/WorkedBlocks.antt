@@ -23,7 +23,8 @@ use Rattle.redn_graph.specs.Fits.{Things, IsCell, FitsInstr, FitsEnd, FitsBlock,
 use Rattle.redn_graph.specs.Growth.{IsRoomy}
 use Rattle.redn_graph.specs.Cores.{cell_move}
 use Rattle.redn_graph.specs.CoreSizes.{instr_taken, fork_taken, round_taken, slots_in}
-use Rattle.redn_graph.specs.Silence.{Seen, chain_seen, graph_seen}
+use Rattle.redn_kernel.specs.Feeds.{Seen, chain_seen}
+use Rattle.redn_graph.specs.Silence.{graph_seen}
 use Rattle.redn_graph.specs.Slots.{block_slots, all_slots}
 use Rattle.redn_graph.specs.Reached.{CanGoTo, LeadsTo, IsPath, EachReached, renumbered}
 use Rattle.redn_graph.specs.Finding.{unseen_slots}

@@ -14,3 +14,4 @@ pub mod Idle
 pub mod Onward
 pub mod Cores
 pub mod CoreSizes
+pub mod Hidden

@@ -12,6 +12,7 @@ ghost use Rattle.redn_graph.specs.Slots.{SlotsWithin, Sized, AreSmall, instr_slo
 ghost use Rattle.redn_graph.specs.Fits.{Things, IsCell, FitsInstr, FitsBlock, FitsTail, Fitted, IsWithin, IsWell, AllWell};
 ghost use Rattle.redn_graph.specs.Idle.{puts_back, idle_code, idle_at};
 ghost use Rattle.redn_graph.specs.Onward.{Works, tail_idle, LeadsOn};
+ghost use Rattle.redn_graph.specs.Hidden.{repeats_in, repeats_in_all};
 ghost use Rattle.redn_graph.specs.Growth.{IsRoomy, AllSound, IsSoundOne, Grown, Bound, IsFirst};
 
 use crate::types::{Block, End, Instr};
@@ -419,6 +420,7 @@ impl Builder {
         ensures compiles { IfOk result (λ after. (hidden exit : ℕ) → Compiles self.old.blocks self.new.blocks hidden exit (statement.now ∷ []) tail after) }
         ensures slots { IfOk result (λ after. SlotsWithin self.old.blocks self.new.blocks tail after (37 * weight_of statement.now)) }
         ensures grown { OnOk result (Grown self.old self.new (weight_of statement.now)) }
+        ensures hidden { OnOk result (self.new.hidden ≡ self.old.hidden) }
         ensures fits { IfOk result (λ after. (n : Things) → IsWithin n self.new → IsWell n statement.now → FitsTail n tail → Fitted n self.old.blocks self.new.blocks × FitsTail n after) }
         ensures size { IfOk result (λ after. Sized self.old.blocks self.new.blocks tail after (weight_of statement.now)) }
         ensures leads { IfOk result (λ after. (exit : ℕ) → LeadsOn self.old.blocks self.new.blocks exit tail after false false) }
@@ -442,6 +444,7 @@ impl Builder {
         ensures compiles { IfOk result (λ after. Compiles self.old.blocks self.new.blocks self.old.hidden exit body.now tail after) }
         ensures slots { IfOk result (λ after. SlotsWithin self.old.blocks self.new.blocks tail after (37 * weight_of_all body.now)) }
         ensures grown { OnOk result (Grown self.old self.new (weight_of_all body.now)) }
+        ensures hidden { OnOk result (self.new.hidden ≡ self.old.hidden + repeats_in_all body.now) }
         ensures fits { IfOk result (λ after. (n : Things) → IsWithin n self.new → exit < n.blocks → AllWell n body.now → FitsTail n tail → Fitted n self.old.blocks self.new.blocks × FitsTail n after) }
         ensures size { IfOk result (λ after. Sized self.old.blocks self.new.blocks tail after (weight_of_all body.now)) }
         ensures leads { IfOk result (λ after. exit < length self.old.blocks → LeadsOn self.old.blocks self.new.blocks exit tail after (is_idle_body body.now) (breaks_idly body.now)) }
@@ -466,6 +469,7 @@ impl Builder {
         ensures compiles { IfOk result (λ after. Compiles self.old.blocks self.new.blocks self.old.hidden exit (statement.now ∷ []) tail after) }
         ensures slots { IfOk result (λ after. SlotsWithin self.old.blocks self.new.blocks tail after (37 * weight_of statement.now)) }
         ensures grown { OnOk result (Grown self.old self.new (weight_of statement.now)) }
+        ensures hidden { OnOk result (self.new.hidden ≡ self.old.hidden + repeats_in statement.now) }
         ensures fits { IfOk result (λ after. (n : Things) → IsWithin n self.new → exit < n.blocks → IsWell n statement.now → FitsTail n tail → Fitted n self.old.blocks self.new.blocks × FitsTail n after) }
         ensures size { IfOk result (λ after. Sized self.old.blocks self.new.blocks tail after (weight_of statement.now)) }
         ensures leads { IfOk result (λ after. exit < length self.old.blocks → LeadsOn self.old.blocks self.new.blocks exit tail after (idles_of statement.now).is_idle (idles_of statement.now).is_break) }
@@ -518,6 +522,7 @@ impl Builder {
         ensures compiles { IfOk result (λ after. Compiles self.old.blocks self.new.blocks self.old.hidden exit (Kernel.If wide left right yes.now no.now ∷ []) tail after) }
         ensures slots { IfOk result (λ after. SlotsWithin self.old.blocks self.new.blocks tail after (37 * (1 + weight_of_all yes.now + weight_of_all no.now))) }
         ensures grown { OnOk result (Grown self.old self.new (1 + weight_of_all yes.now + weight_of_all no.now)) }
+        ensures hidden { OnOk result (self.new.hidden ≡ self.old.hidden + (repeats_in_all yes.now + repeats_in_all no.now)) }
         ensures fits { IfOk result (λ after. (n : Things) → IsWithin n self.new → exit < n.blocks → IsCell n (cell_of left) → IsCell n (cell_of right) → AllWell n yes.now → AllWell n no.now → FitsTail n tail → Fitted n self.old.blocks self.new.blocks × FitsTail n after) }
         ensures size { IfOk result (λ after. Sized self.old.blocks self.new.blocks tail after (1 + weight_of_all yes.now + weight_of_all no.now)) }
         ensures leads { IfOk result (λ after. exit < length self.old.blocks → LeadsOn self.old.blocks self.new.blocks exit tail after false false) }
@@ -537,6 +542,7 @@ impl Builder {
         ensures compiles { IfOk result (λ after. (exit : ℕ) → Compiles self.old.blocks self.new.blocks self.old.hidden exit (Kernel.Loop body.now ∷ []) tail after) }
         ensures slots { IfOk result (λ after. SlotsWithin self.old.blocks self.new.blocks tail after (37 * (1 + weight_of_all body.now))) }
         ensures grown { OnOk result (Grown self.old self.new (1 + weight_of_all body.now)) }
+        ensures hidden { OnOk result (self.new.hidden ≡ self.old.hidden + repeats_in_all body.now) }
         ensures fits { IfOk result (λ after. (n : Things) → IsWithin n self.new → AllWell n body.now → FitsTail n tail → Fitted n self.old.blocks self.new.blocks × FitsTail n after) }
         ensures size { IfOk result (λ after. Sized self.old.blocks self.new.blocks tail after (1 + weight_of_all body.now)) }
         ensures leads { IfOk result (λ after. (exit : ℕ) → is_idle_body body.now ≡ false → LeadsOn self.old.blocks self.new.blocks exit tail after (breaks_idly body.now) false) }
@@ -561,6 +567,7 @@ impl Builder {
         ensures compiles { IfOk result (λ after. (exit : ℕ) → Compiles self.old.blocks self.new.blocks self.old.hidden exit (Kernel.Repeat count body.now ∷ []) tail after) }
         ensures slots { IfOk result (λ after. SlotsWithin self.old.blocks self.new.blocks tail after (37 * (2 + weight_of_all body.now))) }
         ensures grown { OnOk result (Grown self.old self.new (2 + weight_of_all body.now)) }
+        ensures hidden { OnOk result (1 ≤ count → self.new.hidden ≡ self.old.hidden + (1 + repeats_in_all body.now)) }
         ensures fits { IfOk result (λ after. (n : Things) → IsWithin n self.new → AllWell n body.now → FitsTail n tail → Fitted n self.old.blocks self.new.blocks × FitsTail n after) }
         ensures size { IfOk result (λ after. Sized self.old.blocks self.new.blocks tail after (2 + weight_of_all body.now)) }
         ensures leads { IfOk result (λ after. (exit : ℕ) → 1 ≤ count → LeadsOn self.old.blocks self.new.blocks exit tail after false false) }

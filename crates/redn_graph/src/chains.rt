@@ -9,6 +9,7 @@ ghost use Rattle.redn_kernel.specs.declared.types.TableInit.{TableInit};
 ghost use Rattle.redn_graph.specs.Fits.{Things, FitsTail, FitsGraph, FitsChain};
 ghost use Rattle.redn_graph.specs.Growth.{AllSound};
 ghost use Rattle.redn_graph.specs.Follows.{Follows};
+ghost use Rattle.redn_graph.specs.Hidden.{hidden_cells};
 ghost use Rattle.redn_graph.specs.Finding.{FollowsAnywhere};
 ghost use Rattle.redn_graph.specs.Idle.{NoneIdle};
 ghost use Rattle.redn_graph.specs.Onward.{AllStop, IsAmong};
@@ -52,6 +53,7 @@ fn chain_graph(alloc: Global, chain: &ChainInit) -> Result<Graph, Memory>
     ensures few { IfOk result (λ g. length g.blocks < 2 ^ 32) }
     ensures slots { IfOk result (λ g. all_slots g.blocks ≤ 64 * chain_weight chain.now) }
     ensures fits { IfOk result (λ g. (tables : List TableInit) → FitsChain tables chain.now g) }
+    ensures hidden { IfOk result (λ g. g.hidden ≡ hidden_cells chain.now.body) }
     ensures small { IfOk result (λ g. AreSmall 65536 g.blocks) }
     ensures all_stop { IfOk result (λ g. AllStop g.blocks) }
 {
@@ -77,6 +79,7 @@ pub fn graph(alloc: Global, p: &Program, chain: u16) -> Result<Graph, Memory>
     ensures bounded { IfOk result (λ g. (c : ChainInit) (f : Follows c g) → IsBounded c g f) }
     ensures slots { IfOk result (λ g. (c : ChainInit) → slice_get p.now.chains chain ≡ Some c → all_slots g.blocks ≤ 64 * chain_weight c) }
     ensures fits { IfOk result (λ g. (c : ChainInit) → slice_get p.now.chains chain ≡ Some c → FitsGraph p.now.tables c g) }
+    ensures hidden { IfOk result (λ g. (c : ChainInit) → slice_get p.now.chains chain ≡ Some c → g.hidden ≡ hidden_cells c.body) }
     ensures small { IfOk result (λ g. AreSmall 65536 g.blocks) }
     ensures reached { IfOk result (λ g. EachReached g) }
     ensures none_idle { IfOk result (λ g. NoneIdle g.blocks) }

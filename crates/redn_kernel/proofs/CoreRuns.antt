@@ -13,8 +13,8 @@ use Rattle.redn_kernel.specs.Source as source
 use Rattle.redn_kernel.specs.Source.{ChainState, Turn, Item, Take, has_word, first_does, item_does, statement_does, chain_runs, value_of, same_low, word_in}
 use Rattle.redn_words.specs.declared.types.Obs.TheVariants as shows
 use Rattle.redn_kernel.specs.Steps.{Steps, silently}
-use Rattle.redn_kernel.specs.CoreRun.{Cells, CoreItem, CoreState, CoreTurn, Do, put, held, cell_of, core_does, core_item_does, first_core_does, core_step, cores_after}
-use Rattle.redn_kernel.specs.Becomes.{Becomes, chain_at, cores_at}
+use Rattle.redn_kernel.specs.CoreRun.{Cells, CoreItem, Do, put, held, cell_of, core_does, core_item_does, core_step}
+use Rattle.redn_kernel.specs.Becomes.{chain_at, cores_at}
 use Rattle.redn_kernel.specs.Found.{first_with}
 
 pub held_word : (words : List ℕ) (s : Cells) (w : Word) → held words s (cell_of w) ≡ value_of s.vars w
@@ -80,45 +80,6 @@ first_hit tables table key o more e =
 pub first_miss : (tables : List (List ℕ)) (table key o : ℕ) (more : List ℕ) → same_low (word_in tables table o) key ≡ false → first_with tables table key (o ∷ more) ≡ first_with tables table key more
 first_miss tables table key o more e =
     ap (λ (b : Bool). slice_get (cond b (o ∷ filter (λ (o : ℕ). same_low (word_in tables table o) key) more) (filter (λ (o : ℕ). same_low (word_in tables table o) key) more)) 0) e
-
--- after a fault core statements do nothing
-cores_stay : (c : ℕ) (words : List ℕ) (tables : List (List ℕ)) (n : ℕ) (t : CoreState) → t.ended ≡ true → cores_after c words tables n t ≡ t
-cores_stay c words tables zero t e = refl
-cores_stay c words tables (suc n) t e =
-    let stay : CoreTurn = record { tables = tables; state = t; event = shows.Nothing } in
-    let same : (core_step c words tables t).state ≡ t = ap (λ (b : Bool). let turn : CoreTurn = if b then stay else first_core_does c words tables t t.items in turn.state) e in
-    ap (cores_after c words tables n) same ∙ cores_stay c words tables n t e
-
-module _ {statement : Kernel} {cores : List Core} (b : Becomes statement cores) (c : ℕ) (words : List ℕ) (tables : List (List ℕ)) where
-  -- the state that a run leads to stands at a place, and the chain reaches what is left there
-  pub record CameTo (t : ChainState) (u : CoreState) : Type 0 where
-    pub kind : ℕ
-    pub number : ℕ
-    pub items : u.items ≡ b.items kind number
-    pub reached : Reached c tables t tables (chain_at words u.cells u.ended (b.left kind number u.cells.hidden ++ []))
-
-  came_first : (kind number : ℕ) (s : Cells) → CameTo (chain_at words s false (b.left kind number s.hidden ++ [])) (cores_at s (b.items kind number))
-  came_first kind number s = record { kind = kind; number = number; items = refl; reached = record { count = 0; reaches = (refl, refl) } }
-
-  by_end : (n : ℕ) → ((kind number : ℕ) (s : Cells) → CameTo (chain_at words s false (b.left kind number s.hidden ++ [])) (cores_after c words tables n (cores_at s (b.items kind number)))) → (t : ChainState) (kind number count : ℕ) (u : CoreState) → u.items ≡ b.items kind number → Reaches c count tables t tables (chain_at words u.cells u.ended (b.left kind number u.cells.hidden ++ [])) → (ended : Bool) → u.ended ≡ ended → CameTo t (cores_after c words tables n u)
-  by_end n then_comes t kind number count u leads reach true e =
-      subst (CameTo t) (sym (cores_stay c words tables n u e)) (record { kind = kind; number = number; items = leads; reached = record { count = count; reaches = reach } })
-  by_end n then_comes t kind number count u leads reach false e =
-      let same : u ≡ cores_at u.cells (b.items kind number) = ap (λ (list : List CoreItem). let v : CoreState = record u { items = list } in v) leads ∙ ap (λ (over : Bool). let v : CoreState = record { cells = u.cells; items = b.items kind number; ended = over } in v) e in
-      let more = then_comes kind number u.cells in
-      let begins : Reaches c count tables t tables (chain_at words u.cells false (b.left kind number u.cells.hidden ++ [])) = subst (λ (over : Bool). Reaches c count tables t tables (chain_at words u.cells over (b.left kind number u.cells.hidden ++ []))) e reach in
-      subst (λ (v : CoreState). CameTo t (cores_after c words tables n v)) (sym same)
-      (record { kind = more.kind; number = more.number; items = more.items; reached = reach_then c count tables tables tables t _ _ begins more.reached })
-
-  pub comes : (n kind number : ℕ) (s : Cells) → CameTo (chain_at words s false (b.left kind number s.hidden ++ [])) (cores_after c words tables n (cores_at s (b.items kind number)))
-  comes zero kind number s = came_first kind number s
-  comes (suc n) kind number s =
-      let m = b.matched kind number c words tables s [] in
-      let t : ChainState = chain_at words s false (b.left kind number s.hidden ++ []) in
-      let u : CoreState = m.turn.state in
-      let reach = subst (λ (list : List (List ℕ)). Reaches c m.count tables t list (chain_at words u.cells u.ended (b.left m.next_kind m.next_number u.cells.hidden ++ []))) m.same_tables (steps_reach c m.count tables t _ m.steps) in
-      let is_state : (core_step c words tables (cores_at s (b.items kind number))).state ≡ u = ap (λ (v : CoreTurn). v.state) m.is in
-      subst (λ (v : CoreState). CameTo t (cores_after c words tables n v)) (sym is_state) (by_end n (comes n) t m.next_kind m.next_number m.count u m.leads reach u.ended refl)
 
 -- what the load of a value leaves, where nothing is left behind it
 module _ (c : ℕ) (words : List ℕ) (tables last : List (List ℕ)) (s : Cells) (x table : ℕ) (u : ChainState) (over : u.items ≡ []) (goes : u.ended ≡ false) where

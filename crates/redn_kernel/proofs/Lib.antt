@@ -22,3 +22,9 @@ pub mod Counters
 pub mod WorkedCores
 pub mod Uses
 pub mod Composing
+pub mod Quiet
+pub mod Feeds
+pub mod Places
+pub mod Moves
+pub mod Becoming
+mod WorkedBecoming

@@ -1,14 +1,18 @@
 -- A sound program, and statements that aren't.
-use Rattle.std.proofs.Common.{arith, true, false, List, [], ◌∷◌, refl, sym}
+use Rattle.std.proofs.Common.{◌≡◌, ℕ, ◌^◌, ◌<◌, arith, true, false, List, [], ◌∷◌, refl, sym}
 use Rattle.std.proofs.lemmas.Bool.{false≢true}
-use Rattle.std.proofs.lemmas.List.Elements.{All-cons, All-nil}
+use Rattle.std.proofs.lemmas.List.Elements.{All-cons, All-nil, All-head}
+use Rattle.std.proofs.lemmas.Bool.{and_parts}
+use Rattle.std.proofs.lemmas.Bool.Decides.{nat_tests}
+use Rattle.std.specs.Prelude.{All, nat_lt}
+use Rattle.std.specs.List.{list_all}
 use Rattle.redn_kernel.specs.declared.types.Word.TheVariants.{Var, Num}
 use Rattle.redn_kernel.specs.declared.types.Kernel.{Kernel, every-Kernel}
 use Rattle.redn_kernel.specs.declared.types.Kernel.TheVariants as s
 use Rattle.redn_kernel.specs.declared.types.Kernel.TheOpen.{Kernel-F}
 use Rattle.redn_kernel.specs.declared.types.TableInit.{TableInit}
 use Rattle.redn_kernel.specs.declared.types.ChainInit.{ChainInit}
-use Rattle.redn_kernel.specs.Program.{IsNamed, IsSound, IsSoundChain, IsSoundStatement, IsSoundTable}
+use Rattle.redn_kernel.specs.Program.{AreBytes, AreWords, IsNamed, IsSound, IsSoundChain, IsSoundStatement, IsSoundTable}
 use Rattle.redn_kernel.proofs.Cases.{every_of, exits_of_load, exits_of_add, exits_of_if, exits_of_loop, exits_of_reply, idles_of_load, weight_of_load, weight_of_add, weight_of_if, weight_of_loop, weight_of_reply}
 
 abbrev two_words : TableInit
@@ -55,6 +59,14 @@ loop =
     (Kernel-F.Loop ((s.Load 1 0 (Var 0), load) ∷ (s.Add 0 (Num 8), add) ∷ (s.If true (Var 1) (Num 2) (s.Reply (Var 1 ∷ []) ∷ []) [], test) ∷ []))
     (s.outs-Loop _) refl (simp (exits_of_load, exits_of_add) refl, simp idles_of_load refl)
 
+-- numbers below a limit, one by one
+listed : (most : ℕ) (list : List ℕ) → list_all (λ (b : ℕ). nat_lt b most) list ≡ true → All (λ (b : ℕ). b < most) list
+listed most [] e = All-nil (λ (b : ℕ). b < most)
+listed most (b ∷ rest) e =
+    let parts = and_parts (nat_lt b most) (list_all (λ (b : ℕ). nat_lt b most) rest) e in
+    let here : b < most = grind (arith, nat_tests) in
+    All-cons (λ (b : ℕ). b < most) b rest here (listed most rest parts.1)
+
 -- chain c { arg p; var x = 5; loop { .. } }
 abbrev chain : ChainInit
 chain = record { args = 1; vars = 0 ∷ 5 ∷ []; body = s.Loop body ∷ [] }
@@ -66,6 +78,7 @@ chain_is_sound =
       arguments_first = omega arith;
       arguments_fresh = refl;
       variables = omega arith;
+      words = listed (2 ^ 64) (0 ∷ 5 ∷ []) refl;
       statements = All-cons Sound (s.Loop body) [] loop (All-nil Sound);
       reached = refl;
       no_break = simp exits_of_loop refl;
@@ -78,7 +91,7 @@ a_program_is_sound =
       some_chain = omega arith;
       few_chains = omega arith;
       few_tables = omega arith;
-      whole_words = All-cons IsSoundTable two_words [] (omega arith, refl) (All-nil IsSoundTable);
+      whole_words = All-cons IsSoundTable two_words [] (omega arith, refl, listed 256 two_words.bytes refl) (All-nil IsSoundTable);
       few_bytes = omega arith;
       sound_chains = All-cons (IsSoundChain tables) chain [] chain_is_sound (All-nil (IsSoundChain tables));
       light = simp (weight_of_loop, weight_of_load, weight_of_add, weight_of_if, weight_of_reply) (omega arith);
@@ -126,3 +139,10 @@ a_reply_of_no_words h = omega (arith, h.1)
 a_loop_of_nothing : IsSoundStatement tables 2 (Kernel-F.Loop []) → ⊥
 unfolding IsSoundStatement
 a_loop_of_nothing h = false≢true (sym h.1)
+
+-- 256 is no byte, and 2 ^ 64 no word
+no_byte : AreBytes (256 ∷ []) → ⊥
+no_byte all = omega (arith, All-head (λ (b : ℕ). b < 256) 256 [] all)
+
+no_word : AreWords (18446744073709551616 ∷ []) → ⊥
+no_word all = omega (arith, All-head (λ (v : ℕ). v < 2 ^ 64) 18446744073709551616 [] all)

@@ -8,6 +8,7 @@ pub mod Answered
 pub mod Single
 pub mod Steps
 pub mod CoreRun
+pub mod Feeds
 pub mod Becomes
 pub mod Found
 pub mod Uses

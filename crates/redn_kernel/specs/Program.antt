@@ -1,5 +1,5 @@
 -- Which programs are sound.
-use Rattle.std.specs.Prelude.{◌≡◌, ◌≢◌, ℕ, ◌+◌, ◌%◌, ◌<◌, ◌≤◌, min, Bool, true, false, ◌&&◌, ◌||◌, List, [], ◌∷◌, length, map, take, replicate, sum, sum_by, All, Option, Some, None, slice_get}
+use Rattle.std.specs.Prelude.{◌≡◌, ◌≢◌, ℕ, ◌+◌, ◌%◌, ◌^◌, ◌<◌, ◌≤◌, min, Bool, true, false, ◌&&◌, ◌||◌, List, [], ◌∷◌, length, map, take, replicate, sum, sum_by, All, Option, Some, None, slice_get}
 use Rattle.std.specs.List.{list_all, list_any}
 use Rattle.redn_kernel.specs.declared.types.Word.{Word}
 use Rattle.redn_kernel.specs.declared.types.Word.TheVariants.{Var, Num}
@@ -127,19 +127,26 @@ module _ (tables : List TableInit) (vars : ℕ) where
   IsSoundStatement (Kernel-F.Walk x table a key n) = IsSearch x table a key × (1 ≤ n) × (n ≤ 65535)
   IsSoundStatement (Kernel-F.Reply words) = All (IsNamed vars) words × (1 ≤ length words) × (length words ≤ 8)
 
+abbrev pub AreBytes : List ℕ → Type 0
+AreBytes list = All (λ (b : ℕ). b < 256) list
+
+abbrev pub AreWords : List ℕ → Type 0
+AreWords list = All (λ (v : ℕ). v < 2 ^ 64) list
+
 pub record IsSoundChain (tables : List TableInit) (c : ChainInit) : Type 0 where
   pub arguments : c.args ≤ 8
   pub arguments_first : c.args ≤ length c.vars
   pub arguments_fresh : take c.args c.vars ≡ replicate c.args 0
   pub variables : length c.vars ≤ 256
+  pub words : AreWords c.vars
   pub statements : All (every-Kernel (IsSoundStatement tables (length c.vars))) c.body
   pub reached : is_reached c.body ≡ true
   pub no_break : has_break c.body ≡ false
   pub ends : falls_through c.body ≡ false
 
--- a table has whole words, and at least one
+-- a table has bytes, whole words of them, and at least one
 abbrev pub IsSoundTable : TableInit → Type 0
-IsSoundTable t = (1 ≤ length t.bytes) × (length t.bytes % 8 ≡ 0)
+IsSoundTable t = (1 ≤ length t.bytes) × (length t.bytes % 8 ≡ 0) × AreBytes t.bytes
 
 pub record IsSound (p : Program) : Type 0 where
   pub some_chain : 1 ≤ length p.chains

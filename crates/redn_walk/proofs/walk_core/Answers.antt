@@ -11,20 +11,14 @@ use Rattle.redn_kernel.specs.Found.{LeaveFound, nodes}
 use Rattle.redn_walk.specs.Walk.{cores_of}
 use Rattle.redn_kernel.specs.Uses.{AllBelow}
 use Rattle.redn_walk.proofs.Uses.{walk_uses}
-use Rattle.redn_walk.proofs.Walks.{walk_becomes, walk_finds, finds_in, some_nodes, made_in}
+use Rattle.redn_kernel.proofs.Becoming.{becomes}
+use Rattle.redn_walk.proofs.Walks.{walk_finds, finds_in, some_nodes, made_in}
 use Rattle.redn_walk.proofs.Composed.{walk_composes}
 use Rattle.redn_walk.proofs.walk_core.Goals as goal
 
 ok_of : (r : Result (List Core) Memory) (made : List Core) (P : List Core → Type 0) → P made → IfOk r (λ cores. cores ≡ made) → IfOk r P
 ok_of (Ok cores) made P h e = subst P (sym e) h
 ok_of (Err e) made P h t = t
-
-pub returns-clause-same : goal.returns-clause-same
-returns-clause-same c =
-    let i = c.in-Walk in
-    let some = some_nodes c.args.s.now i.to i.table i.nodes i.offset i.key c.requires i.is in
-    let few : i.nodes < 281474976710656 = omega arith in
-    ok_of c.cores.result _ (Becomes c.args.s.now) (subst (λ (st : Kernel). Becomes st (cores_of i.to i.table i.offset i.key i.nodes)) (sym i.is) (walk_becomes i.to i.table i.offset i.key i.nodes some few)) c.cores.ensures
 
 pub returns-clause-finds : goal.returns-clause-finds
 returns-clause-finds c =
@@ -43,12 +37,23 @@ returns-clause-hidden c =
     let i = c.in-Walk in
     ok_of c.cores.result _ (AllBelow 2) (walk_uses i.to i.table i.offset i.key i.nodes) c.cores.ensures
 
-pub returns-clause-composes : goal.returns-clause-composes
-returns-clause-composes c =
+-- the core statements do the walk point by point, so they are it
+composed : (st : Kernel) (r : Result (List Core) Memory) → IfOk r (Composes st) → IfOk r (Becomes st)
+composed st (Ok cores) co = becomes st cores co
+composed st (Err e) t = t
+
+composes_all : goal.returns-clause-composes
+composes_all c =
     let i = c.in-Walk in
     let some = some_nodes c.args.s.now i.to i.table i.nodes i.offset i.key c.requires i.is in
     let few : i.nodes < 281474976710656 = omega arith in
     ok_of c.cores.result _ (Composes c.args.s.now) (subst (λ (st : Kernel). Composes st (cores_of i.to i.table i.offset i.key i.nodes)) (sym i.is) (walk_composes i.to i.table i.offset i.key i.nodes some few)) c.cores.ensures
+
+pub returns-clause-composes : goal.returns-clause-composes
+returns-clause-composes c = composes_all c
+
+pub returns-clause-same : goal.returns-clause-same
+returns-clause-same c = composed c.args.s.now c.cores.result (composes_all c)
 
 pub returns-clause-cores : goal.returns-clause-cores
 returns-clause-cores c =

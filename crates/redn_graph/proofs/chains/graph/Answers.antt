@@ -14,6 +14,7 @@ use Rattle.redn_graph.proofs.Equal.{equal_up_to_silence}
 use Rattle.redn_graph.proofs.Kept.{kept_follows, kept_fits, kept_slots, kept_small, each_there}
 use Rattle.redn_graph.proofs.NoneIdle.{none_idle}
 use Rattle.redn_graph.proofs.Statements.{ok_still, ok_any, some_weight}
+use Rattle.redn_graph.specs.Hidden.{hidden_cells}
 use Rattle.redn_graph.proofs.chains.graph.Goals as goal
 
 pub chain_graph-requires-clause-sound : goal.chain_graph-requires-clause-sound
@@ -106,3 +107,13 @@ pub returns-clause-none_idle : goal.returns-clause-none_idle
 returns-clause-none_idle c =
     let whole = c.in_ok-whole.whole in
     ok_still c.reached.result _ _ (λ (h : Graph) (kept : Kept (passed whole) h). none_idle whole h kept c.in_ok-whole.ensures.all_stop) c.reached.ensures
+
+pub returns-clause-hidden : goal.returns-clause-hidden
+returns-clause-hidden c =
+    let p = c.args.p.now in
+    let chain = c.index-as_slice-chain.result in
+    let at : chain ≡ get_or p.chains c.args.chain chain = c.index-as_slice-chain.is ∙ ap (λ (chains : List ChainInit). get_or chains c.args.chain chain) c.as_slice.ensures in
+    let whole = c.in_ok-whole.whole in
+    ok_still c.reached.result _ _
+    (λ (h : Graph) (kept : Kept (passed whole) h) (other : ChainInit) is. subst (λ (d : ChainInit). h.hidden ≡ hidden_cells d.body) (at ∙ get_or_from_slice_get p.chains c.args.chain other chain is) (kept.hidden ∙ c.in_ok-whole.ensures.hidden))
+    c.reached.ensures

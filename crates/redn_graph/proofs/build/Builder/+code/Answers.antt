@@ -34,6 +34,8 @@ use Rattle.redn_graph.specs.Onward.{LeadsOn}
 use Rattle.redn_graph.proofs.Statements.{loop_not_idle, repeat_some}
 use Rattle.redn_graph.proofs.Stopping.{added_none, added_one, added_then}
 use Rattle.redn_graph.proofs.LeadingOn.{works_open, works_among, works_never, among_more, onward_works, onward_any, onward_as, break_leads, endless_leads, round_added, false_true}
+use Rattle.redn_graph.specs.Hidden.{repeats_in, repeats_in_all}
+use Rattle.redn_graph.proofs.Repeats.{repeats_in_if, repeats_in_loop, repeats_in_repeat, no_repeats, none_in_break, none_in_reply, none_in_lookup, none_in_walk, more_still, some_more, same_more, none_more}
 use Rattle.redn_graph.proofs.build.Builder.+code.Goals as goal
 
 pub branch-list-requires-2 : goal.branch-list-requires-2
@@ -383,7 +385,7 @@ list-loop-i-preserved t c =
     let loop = c.loop-i in
     let told = c.in_ok-after.ensures in
     let body = a.body.now in
-    let one = listed_one c.index-body-i.result told.compiles told.slots told.grown told.fits told.size told.leads in
+    let one = listed_one c.index-body-i.result told.compiles told.slots told.grown told.hidden told.fits told.size told.leads in
     let all = listed_more c.index-body-i.result (drop loop.i body) loop.invariant one in
     let same = ap (λ (first : Kernel). first ∷ drop loop.i body) c.index-body-i.is ∙ sym (last_and_more body loop.i c.index-body-i.result c.loop-i-test.true loop.auto.i) in
     subst (λ (list : List Kernel). Listed a.self.now c.statement.new.self a.exit a.tail list c.in_ok-after.after) same all
@@ -516,3 +518,46 @@ list-returns-clause-fits t c =
     let loop = c.loop-i in
     let first : loop.i ≡ 0 = omega (arith, c.loop-i-test.false) in
     subst (λ (i : ℕ). (n : Things) → IsWithin n loop.self → a.exit < n.blocks → AllWell n (drop i a.body.now) → FitsTail n a.tail → Fitted n a.self.now.blocks loop.self.blocks × FitsTail n loop.after) first loop.invariant.fits
+
+pub statement-returns-in-If-clause-hidden : goal.statement-returns-in-If-clause-hidden
+statement-returns-in-If-clause-hidden t c =
+    let whole = ap repeats_in c.in-If.is ∙ repeats_in_if _ _ _ _ _ in
+    let met = ap repeats_in_all c.as_slice.ensures in
+    let unmet = ap repeats_in_all c.as_slice-in-If.ensures in
+    more_still c.branch-self.result _ _ _ _ (omega (arith, whole, met, unmet)) c.branch-self.ensures.hidden
+
+pub statement-returns-in-Loop-clause-hidden : goal.statement-returns-in-Loop-clause-hidden
+statement-returns-in-Loop-clause-hidden t c =
+    let whole = ap repeats_in c.in-Loop.is ∙ repeats_in_loop _ in
+    let inner = ap repeats_in_all c.as_slice-in-Loop.ensures in
+    more_still c.endless.result _ _ _ _ (omega (arith, whole, inner)) c.endless.ensures.hidden
+
+pub statement-returns-in-Repeat-clause-hidden : goal.statement-returns-in-Repeat-clause-hidden
+statement-returns-in-Repeat-clause-hidden t c =
+    let i = c.in-Repeat in
+    let whole = ap repeats_in i.is ∙ repeats_in_repeat _ _ in
+    let inner = ap repeats_in_all c.as_slice-in-Repeat.ensures in
+    let some = repeat_some c.args.statement.now i.count i.body i.is c.requires.sound in
+    some_more c.counted.result _ _ _ _ i.count some (omega (arith, whole, inner)) c.counted.ensures.hidden
+
+pub statement-returns-in-Break-clause-hidden : goal.statement-returns-in-Break-clause-hidden
+statement-returns-in-Break-clause-hidden t c = omega (arith, ap repeats_in c.in-Break.is ∙ none_in_break)
+
+pub statement-returns-in_ok-words-in-Reply-clause-hidden :
+    goal.statement-returns-in_ok-words-in-Reply-clause-hidden
+statement-returns-in_ok-words-in-Reply-clause-hidden t c = omega (arith, ap repeats_in c.in-Reply.is ∙ none_in_reply _)
+
+pub statement-returns-in-Lookup-clause-hidden : goal.statement-returns-in-Lookup-clause-hidden
+statement-returns-in-Lookup-clause-hidden t c =
+    let i = c.in-Lookup in
+    same_more c.search.result _ _ _ (ap repeats_in i.is ∙ none_in_lookup _ _ _ _ _) c.search.ensures.hidden
+
+pub statement-returns-in-Walk-clause-hidden : goal.statement-returns-in-Walk-clause-hidden
+statement-returns-in-Walk-clause-hidden t c =
+    let i = c.in-Walk in
+    same_more c.search-in-Walk.result _ _ _ (ap repeats_in i.is ∙ none_in_walk _ _ _ _ _) c.search-in-Walk.ensures.hidden
+
+pub statement-returns-in_default-clause-hidden : goal.statement-returns-in_default-clause-hidden
+statement-returns-in_default-clause-hidden t c =
+    let d = c.in_default in
+    none_more c.before-in_default.result _ _ (no_repeats c.args.statement.now d.not-If d.not-Loop d.not-Repeat)

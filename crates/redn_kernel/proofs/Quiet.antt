@@ -7,7 +7,7 @@ use Rattle.redn_kernel.specs.declared.types.Kernel.{Kernel, out-Kernel}
 use Rattle.redn_kernel.specs.declared.types.Kernel.TheOpen.{Kernel-F}
 use Rattle.redn_kernel.specs.Source.{ChainState, Turn, Item, TakeArgument, Do, AgainLoop, AgainRepeat, Find, Take, Visit, Left, Next, Here, first_does, item_does, statement_does, silent, has_word, chain_runs}
 use Rattle.redn_kernel.specs.Steps.{Steps, silently, unchanged}
-use Rattle.redn_graph.specs.Silence.{Feed, seen_then, chain_turn, chain_after, chain_seen}
+use Rattle.redn_kernel.specs.Feeds.{Feed, seen_then, chain_turn, chain_after, chain_seen}
 
 abbrev pub is_nothing : Obs → Bool
 is_nothing shows.Nothing = true
@@ -80,6 +80,40 @@ module _ (c : ℕ) where
   quiet_vars zero t u e = ap (λ (v : ChainState). v.vars) e
   quiet_vars (suc n) t u (running, go, more) = quiet_vars n (record t { items = go.after }) u more
 
+  pub quiet_ended : (n : ℕ) (t u : ChainState) → Quiet n t u → u.ended ≡ t.ended
+  quiet_ended zero t u e = ap (λ (v : ChainState). v.ended) e
+  quiet_ended (suc n) t u (running, go, more) = quiet_ended n (record t { items = go.after }) u more
+
+  -- a chain with nothing left has nothing left behind them
+  pub quiet_done : (n : ℕ) (t u : ChainState) → t.items ≡ [] → Quiet n t u → u.items ≡ []
+  quiet_done zero t u none e = ap (λ (v : ChainState). v.items) e ∙ none
+  quiet_done (suc n) t u none (running, go, more) =
+      let left : go.after ≡ [] = sym (ap (λ (u : Turn). u.chain.items) (go.same [])) ∙ ap (λ (list : List Item). (first_does c [] t list).chain.items) none in
+      quiet_done n (record t { items = go.after }) u left more
+
+  -- quiet steps lead from one state to another
+  pub record Later (t u : ChainState) : Type 0 where
+    pub count : ℕ
+    pub quiet : Quiet count t u
+
+  pub later_vars : (t u : ChainState) → Later t u → t.vars ≡ u.vars
+  later_vars t u l = sym (quiet_vars l.count t u l.quiet)
+
+  pub later_ended : (t u : ChainState) → Later t u → t.ended ≡ u.ended
+  later_ended t u l = sym (quiet_ended l.count t u l.quiet)
+
+  pub later_done : (t u : ChainState) → Later t u → t.items ≡ [] → u.items ≡ []
+  later_done t u l none = quiet_done l.count t u none l.quiet
+
+  quiet_then : (n : ℕ) (t u v : ChainState) → Quiet n t u → Later u v → Later t v
+  quiet_then zero t u v e l = subst (λ (w : ChainState). Later w v) e l
+  quiet_then (suc n) t u v (running, go, more) l =
+      let rest = quiet_then n (record t { items = go.after }) u v more l in
+      record { count = suc rest.count; quiet = (running, go, rest.quiet) }
+
+  pub later_then : (t u v : ChainState) → Later t u → Later u v → Later t v
+  later_then t u v l m = quiet_then l.count t u v l.quiet m
+
   -- some quiet steps, one that shows something, and quiet ones again
   pub record Loud (tables : List (List ℕ)) (t : ChainState) (n : ℕ) (turn : Turn) : Type 0 where
     pub before : ℕ
@@ -135,23 +169,23 @@ module _ (c : ℕ) where
   pub record Remains (n : ℕ) (feed : Feed) (t u : ChainState) : Type 0 where
     pub feed_left : Feed
     pub seen : chain_seen c feed t ≡ chain_seen c feed_left u
-    pub vars : (chain_after c feed t).vars ≡ (chain_after c feed_left u).vars
+    pub later : Later (chain_after c feed t) (chain_after c feed_left u)
     pub content : first_content feed t ≡ first_content feed_left u
     pub shorter : length feed_left ≤ length feed
     pub less : 1 ≤ n → 1 ≤ length feed → length feed_left < length feed
 
   pub remains : (n : ℕ) (feed : Feed) (t u : ChainState) → Quiet n t u → Remains n feed t u
   remains zero feed t u e =
-      record { feed_left = feed; seen = ap (chain_seen c feed) (sym e); vars = ap (λ (v : ChainState). (chain_after c feed v).vars) (sym e); content = ap (first_content feed) (sym e); shorter = omega arith; less = λ some h. absurd (omega arith) }
+      record { feed_left = feed; seen = ap (chain_seen c feed) (sym e); later = record { count = 0; quiet = ap (chain_after c feed) e }; content = ap (first_content feed) (sym e); shorter = omega arith; less = λ some h. absurd (omega arith) }
   remains (suc n) [] t u q =
-      record { feed_left = []; seen = refl; vars = sym (quiet_vars (suc n) t u q); content = refl; shorter = omega arith; less = λ some h. absurd (omega (arith, h)) }
+      record { feed_left = []; seen = refl; later = record { count = suc n; quiet = q }; content = refl; shorter = omega arith; less = λ some h. absurd (omega (arith, h)) }
   remains (suc n) (tables ∷ feed) t u (running, go, more) =
       let is = running_turn tables t running ∙ go.same tables in
       let r = remains n feed (record t { items = go.after }) u more in
       record {
         feed_left = r.feed_left;
         seen = seen_step tables feed t _ is ∙ r.seen;
-        vars = ap (λ (v : ChainState). v.vars) (after_step tables feed t _ is) ∙ r.vars;
+        later = subst (λ (v : ChainState). Later v (chain_after c r.feed_left u)) (sym (after_step tables feed t _ is)) r.later;
         content = content_step tables feed t _ is ∙ r.content;
         shorter = omega (arith, r.shorter);
         less = λ some h. omega (arith, r.shorter);
