@@ -1,16 +1,18 @@
 -- The program of an accepted file is sound.
-use Rattle.std.proofs.Common.{◌≡◌, ℕ, zero, suc, ◌+◌, ◌%◌, ◌<◌, ◌≤◌, Bool, false, not, ◌||◌, ◌==◌, List, [], ◌∷◌, ◌++◌, length, map, take, replicate, fold, get_or, None, Result, Ok, Err, IfOk, refl, sym, ap, ◌∙◌, subst, arith}
+use Rattle.std.proofs.Common.{◌≡◌, ℕ, zero, suc, ◌+◌, ◌%◌, ◌<◌, ◌≤◌, Bool, false, not, ◌||◌, ◌==◌, List, [], ◌∷◌, ◌++◌, length, map, take, drop, replicate, fold, get_or, None, Result, Ok, Err, IfOk, refl, sym, ap, ◌∙◌, subst, arith}
 use Rattle.std.specs.Prelude.{All}
 use Rattle.std.specs.List.{flat_map, sum_by}
 use Rattle.std.proofs.lemmas.Bool.{or_parts}
 use Rattle.std.proofs.lemmas.Bool.Decides.{nat_tests}
 use Rattle.std.proofs.lemmas.List.{length-map, length-append, length-replicate, take_at, take_all, get_or_default, take_more}
-use Rattle.std.proofs.lemmas.List.Elements.{All-nil, All-cons}
+use Rattle.std.proofs.lemmas.List.Elements.{All-nil, All-cons, All-head, All-tail, All-take, All-drop, All-append}
 use Rattle.std.proofs.lemmas.List.Sums.{sum_by-cons, sum_by-append, sum_by_more}
 use Rattle.std.proofs.lemmas.Grind.{fold-append}
 use Rattle.redn_words.specs.Words.{with_bytes_at, spelled}
 use Rattle.redn_words.proofs.Places.{length-with_bytes_at}
 use Rattle.redn_words.proofs.Numbers.{length-spelled}
+use Rattle.redn_words.proofs.Digits.{bytes_of_number}
+use Rattle.std.specs.Prelude.{slice_index}
 use Rattle.redn_syntax.specs.declared.tree.Name.{Name}
 use Rattle.redn_syntax.specs.declared.tree.Item.{Item}
 use Rattle.redn_syntax.specs.declared.tree.Table.{Table}
@@ -20,7 +22,8 @@ use Rattle.redn_syntax.specs.Grammar.{IsWritable}
 use Rattle.redn_kernel.specs.declared.types.Kernel.{every-Kernel}
 use Rattle.redn_kernel.specs.declared.types.TableInit.{TableInit}
 use Rattle.redn_kernel.specs.declared.types.Program.{Program}
-use Rattle.redn_kernel.specs.Program.{IsSound, IsSoundChain, IsSoundTable, IsSoundStatement, all_fall, chain_weight}
+use Rattle.redn_kernel.specs.declared.types.ChainInit.{ChainInit}
+use Rattle.redn_kernel.specs.Program.{AreBytes, AreWords, IsSound, IsSoundChain, IsSoundTable, IsSoundStatement, all_fall, chain_weight}
 use Rattle.redn_check.specs.Faults.{fault, when}
 use Rattle.redn_check.specs.Names.{table_names, variables, variable_names}
 use Rattle.redn_check.specs.Statements.{with_earlier, each_of}
@@ -91,6 +94,25 @@ module _ (t : Table) (good : bad_item t ≡ []) where
   bytes_length : length (table_bytes t) ≡ t.length.value
   bytes_length = ap (λ l. length (fold written (replicate t.length.value 0) (placed l))) (sym (take_all (length t.items) t.items (omega arith))) ∙ bytes_up_to (length t.items) (omega arith)
 
+each_below : (bytes : List ℕ) → ((k : ℕ) → slice_index bytes k < 256) → AreBytes bytes
+each_below [] h = All-nil (λ (b : ℕ). b < 256)
+each_below (b ∷ bytes) h = All-cons (λ (b : ℕ). b < 256) b bytes (h 0) (each_below bytes (λ k. h (suc k)))
+
+spelled_bytes : (n x : ℕ) → AreBytes (spelled n x)
+unfolding spelled
+spelled_bytes n x = each_below (spelled n x) (bytes_of_number n x)
+
+-- the bytes of words over bytes are bytes
+bytes_written : (bytes : List ℕ) (es : List (ℕ × ℕ)) → AreBytes bytes → AreBytes (fold written bytes es)
+bytes_written bytes [] are = are
+bytes_written bytes (e ∷ es) are =
+    bytes_written (written bytes e) es
+    (All-append (λ (b : ℕ). b < 256) (take e.0 bytes) _ (All-take (λ (b : ℕ). b < 256) e.0 bytes are) (All-append (λ (b : ℕ). b < 256) (spelled 8 e.1) _ (spelled_bytes 8 e.1) (All-drop (λ (b : ℕ). b < 256) (e.0 + length (spelled 8 e.1)) bytes are)))
+
+zeros_are_bytes : (n : ℕ) → AreBytes (replicate n 0)
+zeros_are_bytes zero = All-nil (λ (b : ℕ). b < 256)
+zeros_are_bytes (suc n) = All-cons (λ (b : ℕ). b < 256) 0 (replicate n 0) (omega arith) (zeros_are_bytes n)
+
 whole_words : (n : ℕ) (past : Bool) (size : ℕ) → size ≡ n → (n == 0 || not (n % 8 == 0) || past) ≡ false → (1 ≤ size) × (size % 8 ≡ 0)
 whole_words n past size e test =
     let parts = or_parts (n == 0) (not (n % 8 == 0)) (or_parts (n == 0 || not (n % 8 == 0)) past test).0 in
@@ -111,7 +133,8 @@ module _ (tables : List Table) (none : flat_map (λ e. table_faults e.0 e.1) (wi
   table_sound = each_at (λ t. IsSoundTable (table_init t)) tables blank (λ i h.
       let t = get_or tables i blank in
       let size = bytes_length t (placed_items tables none i t h (get_or_default tables i blank t h)) in
-      whole_words t.length.value _ (length (table_bytes t)) size (length_test i h))
+      let whole = whole_words t.length.value _ (length (table_bytes t)) size (length_test i h) in
+      (whole.0, whole.1, bytes_written (replicate t.length.value 0) (placed t.items) (zeros_are_bytes t.length.value)))
 
   table_lengths : (ts : List Table) → Each (λ t. bad_item t ≡ []) ts → sum_by (λ (t : TableInit). length t.bytes) (map table_init ts) ≡ lengths ts
   table_lengths [] h = refl
@@ -129,7 +152,7 @@ module _ (tables : List Table) (none : flat_map (λ e. table_faults e.0 e.1) (wi
 
 -- ---- a chain
 
-module _ (tables : List Table) (c : Chain) (none : chain_faults tables c ≡ []) (worded : Worded c) where
+module _ (tables : List Table) (c : Chain) (none : chain_faults tables c ≡ []) (worded : Worded c) (words : AreWords (first_values c)) where
   abbrev ts : List TableInit
   ts = map table_init tables
 
@@ -168,6 +191,7 @@ module _ (tables : List Table) (c : Chain) (none : chain_faults tables c ≡ [])
         arguments_first = omega arith;
         arguments_fresh = take_at (replicate (length c.args) 0) (map first_value c.vars) (length c.args) zeros;
         variables = subst (λ n. n ≤ 256) (sym count) fit;
+        words = words;
         statements = subst (λ n. All (every-Kernel (IsSoundStatement ts n)) (map (kernel_of T (variables c)) c.body)) (sym count) (statements_sound tables (variables c) c.body fine);
         reached = is_reached T (variables c) c.body (nil_right _ (unreached c.body) before_flow);
         no_break = has_no_break T (variables c) c.body (nil_left _ (open_end c) (nil_left _ (unreached c.body) before_flow));
@@ -205,15 +229,17 @@ not_heavy ws none = never_past own 4096 ws weightless (λ i h.
 
 -- ---- the whole program
 
-chains_sound : (tables : List Table) (chains : List Chain) → flat_map (chain_faults tables) chains ≡ [] → Each Worded chains → Each (λ c. IsSoundChain (map table_init tables) (chain_init tables c)) chains
-chains_sound tables [] none worded = tt
-chains_sound tables (c ∷ chains) none worded = (
-  chain_sound tables c (nil_left (chain_faults tables c) (flat_map (chain_faults tables) chains) none) worded.0,
-  chains_sound tables chains (nil_right (chain_faults tables c) _ none) worded.1,
-)
+chains_sound : (tables : List Table) (chains : List Chain) → flat_map (chain_faults tables) chains ≡ [] → Each Worded chains → All (λ (c : ChainInit). AreWords c.vars) (map (chain_init tables) chains) →
+    Each (λ c. IsSoundChain (map table_init tables) (chain_init tables c)) chains
+chains_sound tables [] none worded words = tt
+chains_sound tables (c ∷ chains) none worded words =
+    let Words : ChainInit → Type 0 = λ c. AreWords c.vars in (
+      chain_sound tables c (nil_left (chain_faults tables c) (flat_map (chain_faults tables) chains) none) worded.0 (All-head Words (chain_init tables c) (map (chain_init tables) chains) words),
+      chains_sound tables chains (nil_right (chain_faults tables c) _ none) worded.1 (All-tail Words (chain_init tables c) (map (chain_init tables) chains) words),
+    )
 
-pub sound : (f : File) → IsWritable f → Accepts f → IsSound (program_of f)
-sound f w accepted =
+pub sound : (f : File) → IsWritable f → Accepts f → All (λ (c : ChainInit). AreWords c.vars) (program_of f).chains → IsSound (program_of f)
+sound f w accepted words =
     let some = writable_words f w in
     let tables = good_tables f accepted in
     let chain_count = length-map f.chains (chain_init f.tables) in
@@ -228,11 +254,11 @@ sound f w accepted =
       few_tables = omega arith;
       whole_words = all_mapped IsSoundTable table_init f.tables (table_sound f.tables tables);
       few_bytes = few_bytes f.tables tables;
-      sound_chains = all_mapped (IsSoundChain (map table_init f.tables)) (chain_init f.tables) f.chains (chains_sound f.tables f.chains (good_chains f accepted) some.1);
+      sound_chains = all_mapped (IsSoundChain (map table_init f.tables)) (chain_init f.tables) f.chains (chains_sound f.tables f.chains (good_chains f accepted) some.1 words);
       light = subst (λ n. n ≤ 4096) (sym (chains_weigh f.tables f.chains)) heaviest;
     }
 
 -- an answer that is the program of an accepted file
-pub sound_answer : (f : File) → IsWritable f → {E : Type 0} (r : Result Program E) → IfOk r (λ p. Accepts f) → IfOk r (λ p. p ≡ program_of f) → IfOk r (λ p. IsSound p)
-sound_answer f w (Ok p) accepted same = subst IsSound (sym same) (sound f w accepted)
-sound_answer f w (Err e) accepted same = tt
+pub sound_answer : (f : File) → IsWritable f → {E : Type 0} (r : Result Program E) → IfOk r (λ p. Accepts f) → IfOk r (λ p. p ≡ program_of f) → IfOk r (λ p. All (λ (c : ChainInit). AreWords c.vars) p.chains) → IfOk r (λ p. IsSound p)
+sound_answer f w (Ok p) accepted same words = subst IsSound (sym same) (sound f w accepted (subst (λ (p : Program). All (λ (c : ChainInit). AreWords c.vars) p.chains) same words))
+sound_answer f w (Err e) accepted same words = tt

@@ -1,6 +1,7 @@
 //! From an accepted file to its program.
 
-ghost use Rattle.std.specs.Prelude.{◌≡◌, ◌≤◌, ◌<◌, ◌^◌, true, [], map, length, fold, IfOk};
+ghost use Rattle.std.specs.Prelude.{◌≡◌, ◌≤◌, ◌<◌, ◌^◌, true, [], map, length, fold, All, IfOk};
+ghost use Rattle.redn_kernel.specs.Program.{AreWords};
 ghost use Rattle.std.specs.List.{flat_map};
 ghost use Rattle.redn_check.specs.Names as names;
 ghost use Rattle.redn_check.specs.Names.{Holds};
@@ -239,7 +240,8 @@ fn tables(alloc: Global, tables: &[Table]) -> Result<Items<TableInit>, Memory>
 
 /// The first values of a chain's variables, those of its arguments first.
 fn first_values(alloc: Global, chain: &Chain) -> Result<Items<u64>, Memory>
-    ensures { IfOk result (λ values. values ≡ numbering.first_values chain.now) }
+    ensures values { IfOk result (λ values. values ≡ numbering.first_values chain.now) }
+    ensures words { IfOk result (λ values. AreWords values) }
 {
     let mut list = vec![in alloc; 0; chain.args.len()]?;
     for variable in chain.vars.as_slice() {
@@ -264,7 +266,8 @@ fn chain(
     requires few_tables { length tables.now ≤ 64 }
     requires few_variables { length (names.variables chain.now) ≤ 256 }
     requires numbers { flat_map rule.number_faults (each_of chain.now.body) ≡ [] }
-    ensures { IfOk result (λ c. c ≡ numbering.chain_init tables.now chain.now) }
+    ensures chain { IfOk result (λ c. c ≡ numbering.chain_init tables.now chain.now) }
+    ensures words { IfOk result (λ c. AreWords c.vars) }
 {
     let declared = declare_variables(alloc, chain)?;
     let scope = Scope {
@@ -285,7 +288,8 @@ fn chain(
 fn chains(alloc: Global, f: &File, table_names: &Names) -> Result<Items<ChainInit>, Memory>
     requires held { Holds table_names.now.places (names.table_names f.now.tables) }
     requires accepted { rule.Accepts f.now }
-    ensures { IfOk result (λ list. list ≡ map (numbering.chain_init f.now.tables) f.now.chains) }
+    ensures chains { IfOk result (λ list. list ≡ map (numbering.chain_init f.now.tables) f.now.chains) }
+    ensures words { IfOk result (λ list. All (λ c. AreWords c.vars) list) }
 {
     let mut list = Items::new(alloc);
     for c in f.chains.as_slice() {
@@ -298,7 +302,8 @@ fn chains(alloc: Global, f: &File, table_names: &Names) -> Result<Items<ChainIni
 /// The program that an accepted file is.
 pub fn program(alloc: Global, f: &File) -> Result<Program, Memory>
     requires { rule.Accepts f.now }
-    ensures { IfOk result (λ p. p ≡ numbering.program_of f.now) }
+    ensures program { IfOk result (λ p. p ≡ numbering.program_of f.now) }
+    ensures words { IfOk result (λ p. All (λ c. AreWords c.vars) p.chains) }
 {
     let declared = declare_tables(alloc, f.tables.as_slice())?;
     let tables = tables(alloc, f.tables.as_slice())?;

@@ -1,9 +1,9 @@
 //! The rules as a whole.
 
-ghost use Rattle.std.specs.Prelude.{◌≡◌, ◌++◌, ℕ, IfOk, IsErrOf};
+ghost use Rattle.std.specs.Prelude.{◌≡◌, ◌++◌, ℕ, All, IfOk, IsErrOf};
 ghost use Rattle.std.specs.List.{flat_map};
 ghost use Rattle.redn_syntax.specs.Grammar.{IsWritable};
-ghost use Rattle.redn_kernel.specs.Program.{IsSound};
+ghost use Rattle.redn_kernel.specs.Program.{AreWords, IsSound};
 ghost use Rattle.redn_check.specs.declared.fault.Fault.{Fault as SpecFault};
 ghost use Rattle.redn_check.specs.Answers.{FailsWith, Gives};
 ghost use Rattle.redn_check.specs.Faults.{fault, first_of, IsFirst};
@@ -77,6 +77,7 @@ fn first_fault(alloc: Global, f: &File) -> Result<Option<Fault>, Memory>
 pub fn checked(alloc: Global, f: &File) -> Result<Program, CheckFault>
     ensures accepted { IfOk result (λ p. Accepts f.now) }
     ensures program { IfOk result (λ p. p ≡ program_of f.now) }
+    ensures words { IfOk result (λ p. All (λ c. AreWords c.vars) p.chains) }
     ensures rule { (rule at seen : ℕ) → IsErrOf result (CheckFault.Rule rule at seen) →
         IsFirst (fault rule at seen) (faults f.now) }
     ensures accepts { Accepts f.now → Gives result (λ p. p ≡ program_of f.now) }

@@ -1,5 +1,5 @@
 -- What readings and answers say, on concrete values.
-use Rattle.std.proofs.Common.{arith, ◌≡◌, ◌+◌, ℕ, zero, suc, cond, List, [], ◌∷◌, ◌++◌, codes, count_by, take, sym, refl, ap, ◌∙◌}
+use Rattle.std.proofs.Common.{arith, ◌≡◌, ◌+◌, ℕ, zero, suc, cond, List, [], ◌∷◌, ◌++◌, codes, count_by, take, sym, refl, ap, subst, ◌∙◌, Ok, Err}
 use Rattle.std.proofs.lemmas.List.Sums.{sum_by-append, sum_by-cons}
 use Rattle.redn_syntax.specs.declared.token.Token.{Token}
 use Rattle.redn_syntax.specs.declared.token.TokenKind.{TokenKind}
@@ -13,7 +13,8 @@ use Rattle.redn_syntax.specs.Grammar.{SamePlace, HasTree, IsViable}
 use Rattle.redn_syntax.proofs.Worked.{name, least_text, least_tokens, least_viable, least_tree, least_read, semicolon_first}
 use Rattle.redn_parse.specs.Lookahead.{kind_at}
 use Rattle.redn_parse.specs.Depth.{is_opening, OpensDeep}
-use Rattle.redn_parse.specs.Reads.{Begins, IsStuck, IsBlocked, IsSole, statement, otherwise, unless}
+use Rattle.redn_parse.specs.Reads.{Begins, IsStuck, IsStuckWithin, IsBlocked, IsFault, IsSole, ReadsAll, ReadsAs, ReadsWithin, statement, otherwise, unless}
+use Rattle.redn_parse.specs.declared.reader.Stop.TheVariants.{Unexpected, Deep}
 use Rattle.redn_parse.specs.Answers.{AreViable, IsUnexpected, IsTooDeep}
 use Rattle.redn_parse.proofs.Samples as a
 use Rattle.redn_parse.proofs.Passed.{alike_kind}
@@ -52,6 +53,35 @@ one_more = block_blocked (Fixed k.OpenBrace 3 ∷ []) 3 refl refl
 -- no `else` where a brace closes
 pub left_out : IsSole otherwise (unless k.Else) (Fixed k.CloseBrace 7 ∷ []) (Fixed k.CloseBrace 7 ∷ []) []
 left_out = left_out_sole (Fixed k.CloseBrace 7 ∷ []) (λ e. cc)
+
+-- why nothing was read: a stop of the one kind says nothing of the other
+pub stopped_deep : (n : ℕ) → IsFault (n ≡ 2) (λ at. at ≡ 3) (Deep 3)
+stopped_deep n = record { none = λ e. absurd (cc); deep = λ at e. let same : ◌≡◌ {A = ℕ} at 3 = cc in same }
+
+pub stopped_early : (n : ℕ) → IsFault (n ≡ 2) (λ at. ⊥) Unexpected → n ≡ 2
+stopped_early n h = h.none refl
+
+-- a block that opens where 65 are open is read as such, whatever has to come behind it
+pub blocked_read : (behind : g.Phrase) → ReadsWithin (g.block_within SamePlace) behind 0 65 (Fixed k.OpenBrace 3 ∷ []) [] (Err (Deep 3))
+blocked_read behind = record { none = λ e. absurd (cc); deep = λ at e. let same : 3 ≡ at = cc in subst (IsBlocked (g.block_within SamePlace) 0 65 (Fixed k.OpenBrace 3 ∷ [])) same one_more }
+
+-- and so as the beginning of a larger phrase
+pub blocked_as : (behind : g.Phrase) → ReadsAs (g.block_within SamePlace) (g.block_within SamePlace) behind 0 65 (Fixed k.OpenBrace 3 ∷ []) [] (Err (Deep 3))
+blocked_as behind = blocked_read behind
+
+-- `arg ;` at whatever depth: no brace opens in what was read
+pub no_name_within : IsStuckWithin (λ (room : ℕ). g.argument SamePlace) (g.argument SamePlace) 0 0 (Fixed k.Arg 3 ∷ Fixed k.Semicolon 7 ∷ []) (Fixed k.Semicolon 7 ∷ [])
+unfolding no_name
+no_name_within = record { stuck = no_name; calm = λ at o. no_brace at o.before o.behind o.split }
+  where
+    no_brace : (at : ℕ) (before behind : List Lexeme) → Fixed k.Arg 3 ∷ [] ≡ before ++ Fixed k.OpenBrace at ∷ behind → ⊥
+    no_brace at [] behind e = cc
+    no_brace at (x ∷ []) behind e = cc
+    no_brace at (x ∷ y ∷ before) behind e = cc
+
+-- no arguments before a brace that closes
+pub no_arguments : ReadsAll (g.argument SamePlace) k.Arg (Fixed k.CloseBrace 7 ∷ []) (Fixed k.CloseBrace 7 ∷ []) (Ok [])
+no_arguments = (Fixed k.CloseBrace 7 ∷ [], refl, (refl, λ e. cc))
 
 -- ---- a token that isn't expected
 
