@@ -1,13 +1,16 @@
 -- Runs of the generated file, worked by hand.
-use Rattle.std.proofs.Common.{arith, ◌≡◌, ℕ, zero, suc, ◌^◌, ◌<◌, true, false, List, [], ◌∷◌, Some, None, get_or, refl, sym, ap, subst, ◌∙◌}
+use Rattle.std.proofs.Common.{arith, ◌≡◌, ℕ, zero, suc, ◌^◌, ◌<◌, true, false, List, [], ◌∷◌, Some, None, get_or, length, refl, sym, ap, subst, ◌∙◌}
 use Rattle.std.specs.Prelude.{slice_get, nat_lt}
 use Rattle.std.specs.List.{All, list_all}
 use Rattle.std.proofs.lemmas.Bool.{false≢true, ltb-true}
 use Rattle.std.proofs.lemmas.List.Sums.{AllPass-from_list_all}
 use Rattle.redn_words.specs.declared.types.Obs.TheVariants as shows
 use Rattle.redn_kernel.specs.Source.{Source, EachRuns, source_after, events}
-use Rattle.redn_gen.specs.Generated.{below, chain_count}
-use Rattle.redn_gen.specs.Runs.{reply_event, generated_start, is_reply_of, NoneRuns, HasTwoWords}
+use Rattle.redn_kernel.specs.declared.types.ChainInit.{ChainInit}
+use Rattle.redn_check.specs.Numbering.{program_of}
+use Rattle.std.proofs.lemmas.List.Elements.{All-nil}
+use Rattle.redn_gen.specs.Generated.{below, chain_count, generated_file, generated_messages}
+use Rattle.redn_gen.specs.Runs.{reply_event, generated_start, is_reply_of, NoneRuns, HasTwoWords, MessagesFit, ChainsReply}
 use Rattle.redn_gen.proofs.Stages.{Stage, First, Over, IsAt}
 use Rattle.redn_gen.proofs.Interleaved.{source}
 use Rattle.redn_gen.proofs.Foretold.{foreseen, foretold}
@@ -105,3 +108,26 @@ none_runs : NoneRuns (source (table_bytes 5) (offset 5) (sought_key 5) (found 5)
 none_runs zero = refl
 none_runs (suc zero) = refl
 none_runs (suc (suc c)) = refl
+
+-- ---- what is asked of messages and runs
+
+-- the file of 4 has one chain, of two arguments, and one message of two words
+one_fits : (length (program_of (generated_file 4)).chains ≡ chain_count 4) × (length (generated_messages 4) ≡ chain_count 4) × (chain_count 4 ≡ 1)
+unfolding below
+one_fits = (refl, refl, refl)
+
+as_record : (two : All (λ (c : ChainInit). c.args ≡ 2) (program_of (generated_file 4)).chains) → All HasTwoWords (generated_messages 4) → MessagesFit 4
+as_record two full = record { chains = one_fits.0; messages = one_fits.1; two = two; full = full }
+
+-- before any step nothing is shown, and both chains still run
+no_step : ChainsReply 5 []
+no_step = record {
+  its = All-nil (λ (c : ℕ). c < chain_count 5);
+  few = λ c. omega arith;
+  all = λ none. absurd (one_still_runs (subst NoneRuns begins none));
+  replies = λ none c l. absurd (one_still_runs (subst NoneRuns begins none));
+}
+
+-- a step of a third chain is in no run of two
+third_chain : ChainsReply 5 (2 ∷ []) → ⊥
+third_chain h = omega (arith, h.its 0 0 (omega arith))
