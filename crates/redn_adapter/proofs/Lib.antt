@@ -10,3 +10,4 @@ pub mod Acting
 pub mod Keeping
 mod Worked
 mod WorkedKeeping
+pub mod Stale

@@ -6,3 +6,4 @@ pub mod AdapterView
 pub mod Quiet
 pub mod Busy
 pub mod Keeping
+pub mod Laws

@@ -42,7 +42,7 @@ are_bytes xs h k =
       | inr high ↦ let e : get_or xs k 0 ≡ 0 = get_or_past xs k 0 high in omega (arith, e)
     ]
 
-listed : (text : List ℕ) (i : Image) → IsListing text i → Assembles text (Made (numbers_of i) i.memory)
+pub listed : (text : List ℕ) (i : Image) → IsListing text i → Assembles text (Made (numbers_of i) i.memory)
 listed text i l = subst (λ (t : List ℕ). Assembles t (Made (numbers_of i) i.memory)) (sym l.is) (read_back i l.obeys (are_bytes i.memory l.bytes))
 
 -- what is read of a listing is its image

@@ -12,6 +12,6 @@ mod rows;
 mod write;
 
 pub use assembler::{ListFault, assemble};
-pub use laws::a_text_has_one_meaning;
+pub use laws::{a_listing_means_its_image, a_text_has_one_meaning};
 pub use lines::next_line;
 pub use write::listing;

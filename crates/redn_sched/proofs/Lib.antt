@@ -16,5 +16,6 @@ pub mod Possible
 pub mod Begun
 pub mod FedPieces
 pub mod Drawing
+pub mod MadeEnds
 mod WorkedShuffles
 mod WorkedPieces
