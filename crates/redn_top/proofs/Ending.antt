@@ -1,5 +1,5 @@
 -- How commands end, by what their parts answer.
-use Rattle.std.proofs.Common.{◌≡◌, ℕ, List, [], ◌∷◌, ◌++◌, take, drop, inl, inr, refl, sym, ap, subst, ◌∙◌}
+use Rattle.std.proofs.Common.{◌≡◌, ◌≤◌, ℕ, List, [], ◌∷◌, ◌++◌, length, take, drop, inl, inr, refl, sym, ap, subst, ◌∙◌}
 use Rattle.std.proofs.lemmas.List.{take-append-drop}
 use Rattle.std.specs.Prelude.{Option, Some, None, Result, Ok, Err, OnOk, IfErr}
 use Rattle.std.specs.Option.{option_map}
@@ -9,12 +9,12 @@ use Rattle.redn_check.specs.Rules.{Accepts}
 use Rattle.redn_check.specs.Numbering.{program_of}
 use Rattle.redn_kernel.specs.declared.types.Program.{Program}
 use Rattle.redn_outside.specs.Counts.{Rose}
-use Rattle.redn_outside.specs.Files.{Files, with_file}
+use Rattle.redn_outside.specs.Files.{Files, OthersStay, with_file}
 use Rattle.redn_outside.specs.Seen.{StoreSeen, SinkSeen, KeepsFiles}
 use Rattle.redn_disasm.specs.Assembly.{Assembles, Made}
 use Rattle.redn_disasm.specs.Listing.{listing_text}
 use Rattle.redn_image.specs.Rules.{Image, numbers_of}
-use Rattle.redn_image.specs.Spelling.{Spells}
+use Rattle.redn_image.specs.Spelling.{Spells, spelling}
 use Rattle.redn_image.specs.Faithful.{Faithful}
 use Rattle.redn_top.specs.declared.limits.TheConstants.{FILE_LIMIT, IMAGE_LIMIT, LISTING_LIMIT}
 use Rattle.redn_top.specs.declared.status.Status.{Status}
@@ -22,7 +22,7 @@ use Rattle.redn_top.specs.declared.status.Status.TheVariants.{Done, Words, Sched
 use Rattle.redn_command.specs.Words.{Command, Check, Compile, Disasm, Assemble}
 use Rattle.redn_top.specs.Sources.{IsTextOf, Means}
 use Rattle.redn_top.specs.Reasons.{Input, IsInput, NoneHolds, First, read_reasons, source_reasons, image_reasons, listing_reasons, reasons}
-use Rattle.redn_top.specs.Answers.{Written, Listed, Checked, IsPart, Answered, Ends, with_written, status_of}
+use Rattle.redn_top.specs.Answers.{Written, Listed, Checked, IsPart, Answered, Ends, first_written, with_written, status_of}
 use Rattle.redn_top.specs.Refusals.{IsHeld, ReadsRefuse, ReadRefused, Refuses, SourceRefused, LinesRefused, PutRefused, WriteRefused}
 use Rattle.redn_top.proofs.FirstReason.{first_here, first_behind, none_both, refuses_map, reads_map, read_passed}
 use Rattle.redn_top.proofs.Contents.{means_none, source_refused}
@@ -75,9 +75,13 @@ module _ (c : Command) (before now : StoreSeen) (out : SinkSeen) (told : now.tol
 
 -- ---- a write that failed
 
-module _ (c : Command) (before mid now : StoreSeen) (out : SinkSeen) (keeps : KeepsFiles before mid) (i : Input) (is : IsInput before.told c i) (none : NoneHolds (reasons c i)) where
+module _ (c : Command) (before mid now : StoreSeen) (out : SinkSeen) (keeps : KeepsFiles before mid) (i : Input) (is : IsInput before.told c i) (none : NoneHolds (reasons c i)) (name : List ℕ) (is_first : first_written c ≡ Some name) (others : OthersStay name mid.told now.told) where
   pub write_ends : (s : Status) → WriteRefused mid now s → Ends c before now out out s
-  write_ends WriteFailed h = inl ((subst (λ (n : ℕ). Rose n now.counts.write_faults) keeps.write_faults h.0, sym keeps.reliable ∙ h.1), inl (record { input = i; is_input = is; none = none; prints = refl }))
+  write_ends WriteFailed h =
+      inl (
+        (subst (λ (n : ℕ). Rose n now.counts.write_faults) keeps.write_faults h.0, sym keeps.reliable ∙ h.1),
+        inl (record { input = i; name = name; is_first = is_first; is_input = is; none = none; others = subst (λ (t : Option Files). OthersStay name t now.told) keeps.told others; prints = refl }),
+      )
   write_ends Memory h = inl (record { holds = ap (λ (x : StoreSeen). x.told) h ∙ keeps.told; prints = refl })
   write_ends Done h = absurd h
   write_ends ReadFailed h = absurd h
@@ -128,8 +132,8 @@ module _ (file : List ℕ) (before now : StoreSeen) (out : SinkSeen) (told : now
         put_ends (Err WriteFailed) e h none =
             let both = take-append-drop h.1.0 printed in
             let checked : Checked (one_file text) Done (take h.1.0 printed ++ drop h.1.0 printed) [] = record { source = text; file = f; found = refl; read = read; accepted = accepted; done = refl; prints = both ∙ is; writes = refl } in
-            let part : IsPart (Check file) (one_file text) (take h.1.0 printed) [] = record { status = Done; rest = drop h.1.0 printed; later = []; finishes = checked; behind = tt } in
-            inr (h.0, record { input = one_file text; printed = take h.1.0 printed; written = []; is_input = held.found; none = none; part = part; holds = told ∙ written_nothing before.told; prints = h.1.1 })
+            let part : IsPart (Check file) (one_file text) (take h.1.0 printed) [] = record { status = Done; rest = drop h.1.0 printed; later = []; finishes = checked } in
+            inr (h.0, record { input = one_file text; printed = take h.1.0 printed; written = []; is_input = held.found; none = none; part = part; behind = tt; holds = told ∙ written_nothing before.told; prints = h.1.1 })
         put_ends (Err Memory) e h none = absurd h
         put_ends (Err Done) e h none = absurd h
         put_ends (Err ReadFailed) e h none = absurd h
@@ -157,7 +161,7 @@ module _ (file name : List ℕ) (before mid : StoreSeen) (out : SinkSeen) (keeps
         contents_end (Compile file name) before mid out keeps.told (one_file text) held.found s
         (refuses_map (source_reasons (Some text)) (reasons (Compile file name) (one_file text)) (λ t. first_behind (read_reasons (Some text) FILE_LIMIT) (source_reasons (Some text)) t (read_passed text FILE_LIMIT held.fits)) s h)
 
-    module _ (p : Program) (means : Means text p) (accepted : NoneHolds (source_reasons (Some text))) (image : Image) (faithful : Faithful p image) (now : StoreSeen) where
+    module _ (p : Program) (means : Means text p) (accepted : NoneHolds (source_reasons (Some text))) (image : Image) (faithful : Faithful p image) (small : length (spelling image) ≤ IMAGE_LIMIT) (now : StoreSeen) (others : OthersStay name mid.told now.told) where
       compile_none : NoneHolds (reasons (Compile file name) (one_file text))
       unfolding one_file
       compile_none = none_both (read_reasons (Some text) FILE_LIMIT) (source_reasons (Some text)) (read_passed text FILE_LIMIT held.fits) accepted
@@ -171,11 +175,11 @@ module _ (file name : List ℕ) (before mid : StoreSeen) (out : SinkSeen) (keeps
             printed = [];
             written = written;
             is_input = held.found;
-            answers = inr (compile_none, ((image, record { source = text; program = p; bytes = w.0; found = refl; means = means; spells = w.1; faithful = faithful; writes = refl }), refl, refl));
+            answers = inr (compile_none, ((image, record { source = text; program = p; bytes = w.0; found = refl; means = means; spells = w.1; faithful = faithful; small = subst (λ (b : List ℕ). length b ≤ IMAGE_LIMIT) (sym w.1.bytes_are) small; writes = refl }), refl, refl));
             holds = w.2 ∙ ap (option_map (with_file name w.0)) keeps.told ∙ written_one name w.0 before.told;
             prints = told_nothing out.told;
           }
-      compile_written (Err s) w h = write_ends (Compile file name) before mid now out keeps (one_file text) held.found compile_none s h
+      compile_written (Err s) w h = write_ends (Compile file name) before mid now out keeps (one_file text) held.found compile_none name refl others s h
 
 -- disasm IMAGE
 module _ (name : List ℕ) (before now : StoreSeen) (out : SinkSeen) (told : now.told ≡ before.told) where
@@ -209,8 +213,8 @@ module _ (name : List ℕ) (before now : StoreSeen) (out : SinkSeen) (told : now
       }
       disasm_put (Err WriteFailed) e h =
           let listed : Listed (one_file bytes) (h.1.0 ++ h.1.1) = record { bytes = bytes; image = image; found = refl; spells = spells; prints = sym h.1.2 ∙ lists } in
-          let part : IsPart (Disasm name) (one_file bytes) h.1.0 [] = record { status = Done; rest = h.1.1; later = []; finishes = (listed, refl, refl); behind = tt } in
-          inr (h.0, record { input = one_file bytes; printed = h.1.0; written = []; is_input = held.found; none = disasm_none; part = part; holds = told ∙ written_nothing before.told; prints = h.1.3 })
+          let part : IsPart (Disasm name) (one_file bytes) h.1.0 [] = record { status = Done; rest = h.1.1; later = []; finishes = (listed, refl, refl) } in
+          inr (h.0, record { input = one_file bytes; printed = h.1.0; written = []; is_input = held.found; none = disasm_none; part = part; behind = tt; holds = told ∙ written_nothing before.told; prints = h.1.3 })
       disasm_put (Err Memory) e h = absurd h
       disasm_put (Err Done) e h = absurd h
       disasm_put (Err ReadFailed) e h = absurd h
@@ -238,7 +242,7 @@ module _ (file name : List ℕ) (before mid : StoreSeen) (out : SinkSeen) (keeps
         contents_end (Assemble file name) before mid out keeps.told (one_file text) held.found s
         (refuses_map (listing_reasons (Some text)) (reasons (Assemble file name) (one_file text)) (λ t. first_behind (read_reasons (Some text) LISTING_LIMIT) (listing_reasons (Some text)) t (read_passed text LISTING_LIMIT held.fits)) s h)
 
-    module _ (image : Image) (means : Assembles text (Made (numbers_of image) image.memory)) (accepted : NoneHolds (listing_reasons (Some text))) (now : StoreSeen) where
+    module _ (image : Image) (means : Assembles text (Made (numbers_of image) image.memory)) (accepted : NoneHolds (listing_reasons (Some text))) (now : StoreSeen) (others : OthersStay name mid.told now.told) where
       assemble_none : NoneHolds (reasons (Assemble file name) (one_file text))
       unfolding one_file
       assemble_none = none_both (read_reasons (Some text) LISTING_LIMIT) (listing_reasons (Some text)) (read_passed text LISTING_LIMIT held.fits) accepted
@@ -256,4 +260,4 @@ module _ (file name : List ℕ) (before mid : StoreSeen) (out : SinkSeen) (keeps
             holds = w.2 ∙ ap (option_map (with_file name w.0)) keeps.told ∙ written_one name w.0 before.told;
             prints = told_nothing out.told;
           }
-      assemble_written (Err s) w h = write_ends (Assemble file name) before mid now out keeps (one_file text) held.found assemble_none s h
+      assemble_written (Err s) w h = write_ends (Assemble file name) before mid now out keeps (one_file text) held.found assemble_none name refl others s h

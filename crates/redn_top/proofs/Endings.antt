@@ -7,7 +7,7 @@ use Rattle.redn_outside.specs.Counts.{Rose}
 use Rattle.redn_outside.specs.Files.{Files, OthersStay, with_file}
 use Rattle.redn_outside.specs.Seen.{StoreSeen, SinkSeen, KeepsFiles}
 use Rattle.redn_image.specs.Rules.{Image}
-use Rattle.redn_image.specs.Spelling.{Spells}
+use Rattle.redn_image.specs.Spelling.{Spells, spelling}
 use Rattle.redn_image.specs.Faithful.{Faithful}
 use Rattle.redn_sched.specs.ScheduleText.{recorded}
 use Rattle.redn_words.specs.declared.types.Action.{Action}
@@ -209,7 +209,8 @@ module _ (name : List ℕ) (r : RunWords) (before mid : StoreSeen) (out : SinkSe
             written = [];
             is_input = run_is;
             none = run_none;
-            part = record { status = h.part.0; rest = h.part.1; later = kept r image h.part.0; finishes = (bytes, image, refl, spells, h.part.2, refl); behind = tt };
+            part = record { status = h.part.0; rest = h.part.1; later = kept r image h.part.0; finishes = (bytes, image, refl, spells, h.part.2, refl) };
+            behind = tt;
             holds = h.holds ∙ keeps.told ∙ written_nothing before.told;
             prints = h.prints;
           }
@@ -230,7 +231,8 @@ module _ (name : List ℕ) (r : RunWords) (before mid : StoreSeen) (out : SinkSe
           last = h.last;
           is_input = run_is;
           none = run_none;
-          part = record { status = Done; rest = []; later = []; finishes = (bytes, image, refl, spells, subst (λ (l : List ℕ). Ran schedule r.plan r.messages image Done l) (sym (append-nil h.printed)) h.ran, sym h.record_is); behind = tt };
+          part = record { status = Done; rest = []; later = []; finishes = (bytes, image, refl, spells, subst (λ (l : List ℕ). Ran schedule r.plan r.messages image Done l) (sym (append-nil h.printed)) h.ran, sym h.record_is) };
+          behind = tt;
           others = subst (λ (t : Option Files). OthersStay h.last.name t now.told) (keeps.told ∙ written_nothing before.told) h.others;
           prints = h.prints;
         }),
@@ -272,16 +274,16 @@ module _ (file name : List ℕ) (r : RunWords) (before mid : StoreSeen) (out : S
       unfolding run_input
       go_none = none_both (run_reads (Some text) FILE_LIMIT r.plan schedule) (source_reasons (Some text)) go_passed accepted
 
-      pub go_unwritten : (now : StoreSeen) (s : Status) → WriteRefused mid now s → Ends (Go file name r) before now out out s
-      go_unwritten now s h = write_ends (Go file name r) before mid now out keeps (run_input text schedule) go_is go_none s h
+      pub go_unwritten : (now : StoreSeen) → OthersStay name mid.told now.told → (s : Status) → WriteRefused mid now s → Ends (Go file name r) before now out out s
+      go_unwritten now others s h = write_ends (Go file name r) before mid now out keeps (run_input text schedule) go_is go_none name refl others s h
 
-      module _ (image : Image) (faithful : Faithful p image) (wrote : StoreSeen) (w : (bytes : List ℕ) × Spells bytes image × (wrote.told ≡ option_map (with_file name bytes) mid.told)) (count : mid.counts.write_faults ≤ wrote.counts.write_faults) (reliable : wrote.reliable ≡ mid.reliable) (now : StoreSeen) (out_now : SinkSeen) where
+      module _ (image : Image) (faithful : Faithful p image) (small : length (spelling image) ≤ IMAGE_LIMIT) (wrote : StoreSeen) (w : (bytes : List ℕ) × Spells bytes image × (wrote.told ≡ option_map (with_file name bytes) mid.told)) (count : mid.counts.write_faults ≤ wrote.counts.write_faults) (reliable : wrote.reliable ≡ mid.reliable) (now : StoreSeen) (out_now : SinkSeen) where
         first : List Written
         first = record { name = name; bytes = w.0 } ∷ []
 
         go_compiled : Compiled (run_input text schedule) name image first
         unfolding run_input first
-        go_compiled = record { source = text; program = p; bytes = w.0; found = refl; means = means; spells = w.1; faithful = faithful; writes = refl }
+        go_compiled = record { source = text; program = p; bytes = w.0; found = refl; means = means; spells = w.1; faithful = faithful; small = subst (λ (b : List ℕ). length b ≤ IMAGE_LIMIT) (sym w.1.bytes_are) small; writes = refl }
 
         go_wrote : wrote.told ≡ option_map (with_written first) before.told
         unfolding first
@@ -318,7 +320,8 @@ module _ (file name : List ℕ) (r : RunWords) (before mid : StoreSeen) (out : S
               written = first;
               is_input = go_is;
               none = go_none;
-              part = record { status = h.part.0; rest = h.part.1; later = kept r image h.part.0; finishes = (image, first, go_compiled, h.part.2, refl); behind = λ e. absurd (not_first [] (append-nil first ∙ e)) };
+              part = record { status = h.part.0; rest = h.part.1; later = kept r image h.part.0; finishes = (image, first, go_compiled, h.part.2, refl) };
+              behind = λ e. absurd (not_first [] (append-nil first ∙ e));
               holds = h.holds ∙ go_wrote;
               prints = h.prints;
             }
@@ -339,7 +342,8 @@ module _ (file name : List ℕ) (r : RunWords) (before mid : StoreSeen) (out : S
             last = h.last;
             is_input = go_is;
             none = go_none;
-            part = record { status = Done; rest = []; later = []; finishes = (image, first, go_compiled, subst (λ (l : List ℕ). Ran schedule r.plan r.messages image Done l) (sym (append-nil h.printed)) h.ran, append-nil (first ++ h.last ∷ []) ∙ ap (λ (l : List Written). first ++ l) (sym h.record_is)); behind = λ e. absurd (not_first (h.last ∷ []) e) };
+            part = record { status = Done; rest = []; later = []; finishes = (image, first, go_compiled, subst (λ (l : List ℕ). Ran schedule r.plan r.messages image Done l) (sym (append-nil h.printed)) h.ran, append-nil (first ++ h.last ∷ []) ∙ ap (λ (l : List Written). first ++ l) (sym h.record_is)) };
+            behind = λ e. absurd (not_first [] (append-nil first ∙ e));
             others = subst (λ (t : Option Files). OthersStay h.last.name t now.told) go_wrote h.others;
             prints = h.prints;
           }),

@@ -1,16 +1,17 @@
 -- How the generated file's command ends, by what its parts answer.
-use Rattle.std.proofs.Common.{◌≡◌, ℕ, List, [], ◌∷◌, ◌++◌, inl, inr, refl, sym, ap, ◌∙◌}
+use Rattle.std.proofs.Common.{◌≡◌, ◌≤◌, ℕ, List, [], ◌∷◌, ◌++◌, length, inl, inr, refl, sym, ap, subst, ◌∙◌}
 use Rattle.std.specs.Prelude.{None, Result, Ok, Err, OnOk, IfErr}
 use Rattle.std.specs.Option.{option_map}
-use Rattle.redn_outside.specs.Files.{with_file}
+use Rattle.redn_outside.specs.Files.{OthersStay, with_file}
 use Rattle.redn_outside.specs.Seen.{StoreSeen, SinkSeen}
 use Rattle.redn_image.specs.Rules.{Image}
-use Rattle.redn_image.specs.Spelling.{Spells}
+use Rattle.redn_image.specs.Spelling.{Spells, spelling}
 use Rattle.redn_image.specs.Faithful.{Faithful}
 use Rattle.redn_command.specs.Words.{Gen}
 use Rattle.redn_summary.specs.Summary.{generated_program, summary}
 use Rattle.redn_top.specs.declared.status.Status.{Status}
 use Rattle.redn_top.specs.declared.status.Status.TheVariants.{Done, Words, Schedule as BadSchedule, ReadFailed, Missing, WriteFailed, Long, Text, Program as ProgramRefused, Image as ImageRefused, Memory, Step, Message}
+use Rattle.redn_top.specs.declared.limits.TheConstants.{IMAGE_LIMIT}
 use Rattle.redn_top.specs.Reasons.{Input}
 use Rattle.redn_top.specs.Answers.{Written, Generated, BrokeOff, Ends, status_of}
 use Rattle.redn_top.specs.Refusals.{LinesRefused, WriteRefused}
@@ -25,27 +26,27 @@ module _ (number : ℕ) (name : List ℕ) (before : StoreSeen) (out : SinkSeen) 
   pub gen_wants : Ends (Gen number name) before before out out Memory
   gen_wants = inl (record { holds = refl; prints = refl })
 
-  pub gen_unwritten : (now : StoreSeen) (s : Status) → WriteRefused before now s → Ends (Gen number name) before now out out s
-  gen_unwritten now WriteFailed h = inl (h, inl (record { input = no_file; is_input = tt; none = tt; prints = refl }))
-  gen_unwritten now Memory h = inl (record { holds = ap (λ (x : StoreSeen). x.told) h; prints = refl })
-  gen_unwritten now Done h = absurd h
-  gen_unwritten now Words h = absurd h
-  gen_unwritten now ReadFailed h = absurd h
-  gen_unwritten now Missing h = absurd h
-  gen_unwritten now (Long seen limit) h = absurd h
-  gen_unwritten now (Text fault) h = absurd h
-  gen_unwritten now (ProgramRefused rule at seen) h = absurd h
-  gen_unwritten now (ImageRefused fault) h = absurd h
-  gen_unwritten now (BadSchedule line) h = absurd h
-  gen_unwritten now (Step line) h = absurd h
-  gen_unwritten now (Message fault) h = absurd h
+  pub gen_unwritten : (now : StoreSeen) → OthersStay name before.told now.told → (s : Status) → WriteRefused before now s → Ends (Gen number name) before now out out s
+  gen_unwritten now others WriteFailed h = inl (h, inl (record { input = no_file; name = name; is_first = refl; is_input = tt; none = tt; others = others; prints = refl }))
+  gen_unwritten now others Memory h = inl (record { holds = ap (λ (x : StoreSeen). x.told) h; prints = refl })
+  gen_unwritten now others Done h = absurd h
+  gen_unwritten now others Words h = absurd h
+  gen_unwritten now others ReadFailed h = absurd h
+  gen_unwritten now others Missing h = absurd h
+  gen_unwritten now others (Long seen limit) h = absurd h
+  gen_unwritten now others (Text fault) h = absurd h
+  gen_unwritten now others (ProgramRefused rule at seen) h = absurd h
+  gen_unwritten now others (ImageRefused fault) h = absurd h
+  gen_unwritten now others (BadSchedule line) h = absurd h
+  gen_unwritten now others (Step line) h = absurd h
+  gen_unwritten now others (Message fault) h = absurd h
 
-  module _ (image : Image) (faithful : Faithful (generated_program number) image) (now : StoreSeen) (w : (bytes : List ℕ) × Spells bytes image × (now.told ≡ option_map (with_file name bytes) before.told)) where
+  module _ (image : Image) (faithful : Faithful (generated_program number) image) (small : length (spelling image) ≤ IMAGE_LIMIT) (now : StoreSeen) (w : (bytes : List ℕ) × Spells bytes image × (now.told ≡ option_map (with_file name bytes) before.told)) where
     abbrev first : List Written
     first = record { name = name; bytes = w.0 } ∷ []
 
     generated : (printed : List ℕ) → printed ≡ summary number image → Generated number name printed first
-    generated printed e = record { image = image; bytes = w.0; spells = w.1; faithful = faithful; prints = e; writes = refl }
+    generated printed e = record { image = image; bytes = w.0; spells = w.1; faithful = faithful; small = subst (λ (b : List ℕ). length b ≤ IMAGE_LIMIT) (sym w.1.bytes_are) small; prints = e; writes = refl }
 
     -- a part of the summary was put
     broke : (out_now : SinkSeen) (printed rest : List ℕ) → summary number image ≡ printed ++ rest → out_now.told ≡ option_map (λ t. t ++ printed) out.told → BrokeOff (Gen number name) before now out out_now
@@ -56,7 +57,8 @@ module _ (number : ℕ) (name : List ℕ) (before : StoreSeen) (out : SinkSeen) 
           written = first;
           is_input = tt;
           none = tt;
-          part = record { status = Done; rest = rest; later = []; finishes = (generated (printed ++ rest) (sym e), refl); behind = λ empty. absurd (cc) };
+          part = record { status = Done; rest = rest; later = []; finishes = (generated (printed ++ rest) (sym e), refl) };
+          behind = λ empty. absurd (cc);
           holds = w.2 ∙ written_one name w.0 before.told;
           prints = put;
         }

@@ -16,5 +16,9 @@ pub mod Succeeding
 pub mod ListingLines
 pub mod MadeRuns
 pub mod ScheduleRuns
+pub mod SourceEnds
+pub mod QuietRuns
+pub mod CallsMade
 mod Worked
 mod WorkedParts
+mod WorkedCalls

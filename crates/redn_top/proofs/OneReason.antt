@@ -10,9 +10,10 @@ use Rattle.redn_top.specs.declared.status.Status.TheVariants.{Done, Words, Sched
 use Rattle.redn_top.specs.StatusText.{code_of}
 use Rattle.redn_command.specs.declared.limits.TheConstants.{MOST_STEPS}
 use Rattle.redn_command.specs.Words.{Command, Check, Compile, Run, Go, Disasm, Assemble, Gen, Plan, Schedule, Fair, Shuffle, MessageWord, Line, most_steps, GivesPlan, IsCommand}
+use Rattle.redn_top.specs.Calls.{Calls, IsDemanded}
 use Rattle.redn_top.specs.Refusals.{IsRunnable, CanRun}
 use Rattle.redn_top.specs.Reasons.{Input, IsInput, IsPlanInput, plan_reads, run_reads, Reasons, Nil, Or, also, NoneHolds, First, missing, too_long, no_tree, no_program, no_image, wrong_line, broken_rows, read_reasons, source_reasons, image_reasons, listing_reasons, reasons}
-use Rattle.redn_top.specs.Answers.{Written, Ran, RunsMade, MadeMessages, MadeEnd, RunsImage, BadMessages, ToEnd, Stops, Meets, Finishes, Answered, Ends, IfRead, IfSpoken, IsRunEnd, IsFinish, IsFinishOrWant, NoneFailed}
+use Rattle.redn_top.specs.Answers.{Written, Ran, RunsMade, MadeMessages, MadeEnd, RunsImage, BadMessages, ToEnd, Stops, Meets, Finishes, Answered, Ends, IfSpoken, IsRunEnd, IsFinish, IsFinishOrWant, NoneFailed}
 
 -- ---- words
 
@@ -175,20 +176,20 @@ module _ (c : Command) (before now : StoreSeen) (out out_now : SinkSeen) (files 
   not_written s h (inl (failed, inr e)) = none_for s h e.input e.is_input e.none
   not_written s h (inr (failed, e)) = none_for s h e.input e.is_input e.none
 
-  pub demands_so : (s t : Status) → First (reasons c i) s → Ends c before now out out_now t → IfRead t (code_of t ≡ code_of s)
-  demands_so s ReadFailed h e = tt
-  demands_so s WriteFailed h e = absurd (not_written s h e)
-  demands_so s Memory h e = tt
-  demands_so s Missing h e = answered_code s Missing h e.1
-  demands_so s (Long seen limit) h e = answered_code s (Long seen limit) h e.1
-  demands_so s Done h e = answered_code s Done h e
-  demands_so s (Text fault) h e = answered_code s (Text fault) h e
-  demands_so s (ProgramRefused rule at seen) h e = answered_code s (ProgramRefused rule at seen) h e
-  demands_so s (ImageRefused fault) h e = answered_code s (ImageRefused fault) h e
-  demands_so s (Step line) h e = answered_code s (Step line) h e
-  demands_so s (Message fault) h e = answered_code s (Message fault) h e
-  demands_so s Words h e = answered_code s Words h e
-  demands_so s (BadSchedule number) h e = answered_code s (BadSchedule number) h e
+  pub demands_so : (s t : Status) → First (reasons c i) s → Ends c before now out out_now t → Calls c before now t → IsDemanded c before now s t
+  demands_so s ReadFailed h e k = k
+  demands_so s WriteFailed h e k = absurd (not_written s h e)
+  demands_so s Memory h e k = tt
+  demands_so s Missing h e k = answered_code s Missing h e.1
+  demands_so s (Long seen limit) h e k = answered_code s (Long seen limit) h e.1
+  demands_so s Done h e k = answered_code s Done h e
+  demands_so s (Text fault) h e k = answered_code s (Text fault) h e
+  demands_so s (ProgramRefused rule at seen) h e k = answered_code s (ProgramRefused rule at seen) h e
+  demands_so s (ImageRefused fault) h e k = answered_code s (ImageRefused fault) h e
+  demands_so s (Step line) h e k = answered_code s (Step line) h e
+  demands_so s (Message fault) h e k = answered_code s (Message fault) h e
+  demands_so s Words h e k = answered_code s Words h e
+  demands_so s (BadSchedule number) h e k = answered_code s (BadSchedule number) h e
 
   pub works_so : (t : Status) → NoneHolds (reasons c i) → Ends c before now out out_now t → IfSpoken t (IsFinish c t)
   works_so ReadFailed none e = tt

@@ -1,5 +1,5 @@
 -- What a command answers, prints and writes, by what it finds.
-use Rattle.std.specs.Prelude.{◌≡◌, ◌⊎◌, ℕ, List, [], ◌∷◌, ◌++◌, length, Option, Some, None, Result, Ok, Err}
+use Rattle.std.specs.Prelude.{◌≡◌, ◌⊎◌, ◌≤◌, ℕ, List, [], ◌∷◌, ◌++◌, length, Option, Some, None, Result, Ok, Err}
 use Rattle.std.specs.Option.{option_map}
 use Rattle.redn_syntax.specs.declared.tree.File.{File}
 use Rattle.redn_syntax.specs.Canonical.{canonical_text}
@@ -15,6 +15,7 @@ use Rattle.redn_image.specs.Spelling.{Spells}
 use Rattle.redn_image.specs.Faithful.{Faithful, start_of}
 use Rattle.redn_words.specs.States.{State}
 use Rattle.redn_sched.specs.ScheduleText.{recorded}
+use Rattle.redn_top.specs.declared.limits.TheConstants.{IMAGE_LIMIT}
 use Rattle.redn_top.specs.declared.status.Status.{Status}
 use Rattle.redn_top.specs.declared.status.Status.TheVariants as status
 use Rattle.redn_command.specs.Words.{Command, Check, Compile, Run, Go, Disasm, Assemble, Gen, Plan, Schedule, Fair, Shuffle, RunWords, MessageWord}
@@ -47,7 +48,7 @@ pub record Checked (i : Input) (s : Status) (printed : List ℕ) (written : List
   pub prints : printed ≡ canonical_text file
   pub writes : written ≡ []
 
--- the bytes written under a name spell an image that is faithful to the program that the file means
+-- the bytes written under a name spell an image that is faithful to the program that the file means, and aren't too many to be read
 pub record Compiled (i : Input) (name : List ℕ) (image : Image) (written : List Written) : Type 0 where
   pub source : List ℕ
   pub program : Program
@@ -56,6 +57,7 @@ pub record Compiled (i : Input) (name : List ℕ) (image : Image) (written : Lis
   pub means : Means source program
   pub spells : Spells bytes image
   pub faithful : Faithful program image
+  pub small : length bytes ≤ IMAGE_LIMIT
   pub writes : written ≡ record { name = name; bytes = bytes } ∷ []
 
 -- the listing of an image is printed
@@ -113,12 +115,13 @@ abbrev pub kept : RunWords → Image → Status → List Written
 kept r image status.Done = kept_under r.keep (recorded (planned r.plan (opened image r.messages)))
 kept r image _ = []
 
--- the bytes written under a name spell an image that is faithful to the generated program, and the summary on it is printed
+-- the bytes written under a name spell an image that is faithful to the generated program, aren't too many to be read, and the summary on it is printed
 pub record Generated (number : ℕ) (name : List ℕ) (printed : List ℕ) (written : List Written) : Type 0 where
   pub image : Image
   pub bytes : List ℕ
   pub spells : Spells bytes image
   pub faithful : Faithful (generated_program number) image
+  pub small : length bytes ≤ IMAGE_LIMIT
   pub prints : printed ≡ summary number image
   pub writes : written ≡ record { name = name; bytes = bytes } ∷ []
 
@@ -169,7 +172,6 @@ pub record IsPart (c : Command) (i : Input) (printed : List ℕ) (written : List
   pub rest : List ℕ
   pub later : List Written
   pub finishes : Finishes c i status (printed ++ rest) (written ++ later)
-  pub behind : IsBehindImage c printed written
 
 -- no reason holds, and of the command's work a first part was done, as far as it is told
 pub record BrokeOff (c : Command) (before now : StoreSeen) (out out_now : SinkSeen) : Type 0 where
@@ -179,14 +181,28 @@ pub record BrokeOff (c : Command) (before now : StoreSeen) (out out_now : SinkSe
   pub is_input : IsInput before.told c input
   pub none : NoneHolds (reasons c input)
   pub part : IsPart c input printed written
+  pub behind : IsBehindImage c printed written
   pub holds : now.told ≡ option_map (with_written written) before.told
   pub prints : out_now.told ≡ option_map (λ text. text ++ printed) out.told
 
--- no reason holds, and the first write failed: what its name holds is open, and nothing was printed
-pub record LostFirst (c : Command) (before : StoreSeen) (out out_now : SinkSeen) : Type 0 where
+-- the name under which a command writes first
+abbrev pub first_written : Command → Option (List ℕ)
+first_written (Check file) = None
+first_written (Compile file name) = Some name
+first_written (Run image r) = r.keep
+first_written (Go file name r) = Some name
+first_written (Disasm image) = None
+first_written (Assemble listing name) = Some name
+first_written (Gen number name) = Some name
+
+-- no reason holds, and the first write failed: what its name holds is open, all other files stay, and nothing was printed
+pub record LostFirst (c : Command) (before now : StoreSeen) (out out_now : SinkSeen) : Type 0 where
   pub input : Input
+  pub name : List ℕ
+  pub is_first : first_written c ≡ Some name
   pub is_input : IsInput before.told c input
   pub none : NoneHolds (reasons c input)
+  pub others : OthersStay name before.told now.told
   pub prints : out_now.told ≡ out.told
 
 -- no reason holds, a first part was done, and the last of its writes failed: what its name holds is open
@@ -198,13 +214,14 @@ pub record LostLast (c : Command) (before now : StoreSeen) (out out_now : SinkSe
   pub is_input : IsInput before.told c input
   pub none : NoneHolds (reasons c input)
   pub part : IsPart c input printed (written ++ last ∷ [])
+  pub behind : IsBehindImage c printed written
   pub others : OthersStay last.name (option_map (with_written written) before.told) now.told
   pub prints : out_now.told ≡ option_map (λ text. text ++ printed) out.told
 
 -- with its status, a command did this
 abbrev pub Ends : Command → StoreSeen → StoreSeen → SinkSeen → SinkSeen → Status → Type 0
 Ends c before now out out_now status.ReadFailed = ReadFailed before now × Stayed before now out out_now
-Ends c before now out out_now status.WriteFailed = (WriteFailed before now × (LostFirst c before out out_now ⊎ LostLast c before now out out_now)) ⊎ (PutFailed out out_now × BrokeOff c before now out out_now)
+Ends c before now out out_now status.WriteFailed = (WriteFailed before now × (LostFirst c before now out out_now ⊎ LostLast c before now out out_now)) ⊎ (PutFailed out out_now × BrokeOff c before now out out_now)
 Ends c before now out out_now status.Memory = Stayed before now out out_now ⊎ BrokeOff c before now out out_now
 Ends c before now out out_now status.Missing = MissingRose before now × Answered c before now out out_now status.Missing
 Ends c before now out out_now (status.Long seen limit) = LongRose before now × Answered c before now out out_now (status.Long seen limit)
@@ -275,12 +292,6 @@ IsGood _ i now = Unit {0}
 
 abbrev pub DoneOrWant : Status → Type 0
 DoneOrWant s = (s ≡ status.Done) ⊎ (s ≡ status.Memory)
-
--- a status that is no failed read and no want of memory
-abbrev pub IfRead : Status → Type 0 → Type 0
-IfRead status.ReadFailed P = Unit {0}
-IfRead status.Memory P = Unit {0}
-IfRead _ P = P
 
 -- the words are no command, or memory for them is wanting
 abbrev pub IsNoCommand : Status → Type 0

@@ -5,4 +5,6 @@ pub mod MessageWords
 pub mod Reasons
 pub mod Answers
 pub mod Refusals
+pub mod Laws
+pub mod Calls
 pub mod Makers

@@ -1,7 +1,8 @@
 //! What is read before anything is written.
 
-ghost use Rattle.std.specs.Prelude.{◌≡◌, ◌^◌, ◌-◌, ◌<◌, ◌≤◌, ℕ, List, Some, length, IfOk, IfErr, OnOk};
+ghost use Rattle.std.specs.Prelude.{◌≡◌, ◌^◌, ◌-◌, ◌<◌, ◌≤◌, ℕ, List, [], ◌∷◌, Some, length, IfOk, IfErr, OnOk};
 ghost use Rattle.std.specs.Option.{option_map};
+ghost use Rattle.redn_outside.specs.Calls.{Reads, and_calls};
 ghost use Rattle.redn_outside.specs.Seen.{KeepsFiles};
 ghost use Rattle.redn_command.specs.Words.{plan_view};
 ghost use Rattle.redn_kernel.specs.Program.{IsSound};
@@ -11,6 +12,7 @@ ghost use Rattle.redn_image.specs.Rules.{numbers_of};
 ghost use Rattle.redn_disasm.specs.Assembly.{Assembles, Made};
 ghost use Rattle.redn_disasm.specs.Going.{SaysWhy as MeansNoImage};
 ghost use Rattle.redn_disasm.specs.Laws.{OneMeaning};
+ghost use Rattle.redn_top.specs.Calls.{GrewBy, ReadsMade, run_reads};
 ghost use Rattle.redn_top.specs.Sources.{Means};
 ghost use Rattle.redn_top.specs.Reasons.{NoneHolds, image_reasons, listing_reasons, source_reasons};
 ghost use Rattle.redn_top.specs.Refusals.{IsHeld, IsPlanHeld, ReadRefused, Refuses, RunReadRefused};
@@ -37,6 +39,10 @@ pub fn read_file<S: Store>(
     ensures held { IfOk result (λ bytes. IsHeld (S.seen store.old).told name.now limit bytes.items) }
     ensures refused { IfErr result
         (ReadRefused (S.seen store.old).told name.now limit (S.seen store.old) (S.seen store.new)) }
+    ensures called { OnOk result ((S.seen store.new).calls
+        ≡ and_calls (Reads name.now limit ∷ []) (S.seen store.old).calls) }
+    ensures made { IfErr result (λ s. GrewBy (ReadsMade (S.seen store.old).told (Reads name.now limit ∷ []) s)
+        (S.seen store.old) (S.seen store.new)) }
 {
     match store.read(alloc, name, limit) {
         Ok(bytes) => Ok(bytes),
@@ -61,6 +67,11 @@ pub fn read_run<S: Store>(
     ensures schedule_held { IfOk result (λ files. IsPlanHeld (S.seen store.old).told (plan_view plan.now)
         (option_map (λ v. v.items) files.1)) }
     ensures refused { IfErr result (RunReadRefused (S.seen store.old).told name.now limit (plan_view plan.now)
+        (S.seen store.old) (S.seen store.new)) }
+    ensures called { OnOk result ((S.seen store.new).calls
+        ≡ and_calls (run_reads name.now limit (plan_view plan.now)) (S.seen store.old).calls) }
+    ensures made { IfErr result (λ s. GrewBy
+        (ReadsMade (S.seen store.old).told (run_reads name.now limit (plan_view plan.now)) s)
         (S.seen store.old) (S.seen store.new)) }
 {
     let first = read_file(alloc, store, name, limit)?;

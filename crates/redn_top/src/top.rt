@@ -1,18 +1,19 @@
 //! The commands.
 
-ghost use Rattle.std.specs.Prelude.{◌≡◌, ◌≤◌, List, ℕ, None, Some, IfOk, IfErr, OnOk, map, string_bytes};
+ghost use Rattle.std.specs.Prelude.{◌≡◌, ◌≤◌, List, [], ◌∷◌, ℕ, None, Some, IfOk, IfErr, OnOk, length, map, string_bytes};
 ghost use Rattle.std.specs.Option.{option_map};
+ghost use Rattle.redn_outside.specs.Calls.{Writes, and_calls};
 ghost use Rattle.redn_outside.specs.Files.{Files, OthersStay, with_file};
 ghost use Rattle.redn_outside.specs.Seen.{KeepsOthers};
 ghost use Rattle.redn_image.specs.Faithful.{Faithful};
-ghost use Rattle.redn_image.specs.Spelling.{Spells};
+ghost use Rattle.redn_image.specs.Spelling.{Spells, spelling};
 ghost use Rattle.redn_command.specs.Words.{Command as CommandValue, Check, Compile, Run, Go, Disasm, Assemble, Gen, IsCommand, command_view, message_view, plan_view};
 ghost use Rattle.redn_summary.specs.Summary.{generated_program};
-ghost use Rattle.redn_top.specs.StatusText.{code_of};
 ghost use Rattle.redn_top.specs.declared.status.Status.{Status};
 ghost use Rattle.redn_top.specs.declared.status.Status.TheVariants.{Words};
 ghost use Rattle.redn_top.specs.Reasons.{Input, IsInput, First, NoneHolds, reasons};
-ghost use Rattle.redn_top.specs.Answers.{DoneOrWant, Ends, IfRead, IfSpoken, IsFinish, IsFinishOrWant, IsGood, IsNoCommand, NoneFailed, OthersStayThan, Spares, Stayed, status_of};
+ghost use Rattle.redn_top.specs.Answers.{DoneOrWant, Ends, IfSpoken, IsFinish, IsFinishOrWant, IsGood, IsNoCommand, NoneFailed, OthersStayThan, Spares, Stayed, status_of};
+ghost use Rattle.redn_top.specs.Calls.{AreFirst, Calls, GrewBy, IsDemanded, RecordMade};
 ghost use Rattle.redn_top.specs.Refusals.{CanRun, HasText, IsRunnable, RunEnds, WriteRefused, run_of};
 
 use crate::limits::{FILE_LIMIT, IMAGE_LIMIT, LISTING_LIMIT};
@@ -42,6 +43,8 @@ fn write_file<S: Store>(
     ensures stays { KeepsOthers name.now (S.seen store.old) (S.seen store.new) }
     ensures wrote { OnOk result ((S.seen store.new).told ≡ option_map (with_file name.now bytes.now) (S.seen store.old).told) }
     ensures refused { IfErr result (WriteRefused (S.seen store.old) (S.seen store.new)) }
+    ensures called { OnOk result ((S.seen store.new).calls ≡ and_calls (Writes name.now ∷ []) (S.seen store.old).calls) }
+    ensures made { IfErr result (λ _. GrewBy (AreFirst (Writes name.now ∷ [])) (S.seen store.old) (S.seen store.new)) }
 {
     match store.write(alloc, name, bytes) {
         Ok(()) => Ok(()),
@@ -63,6 +66,8 @@ fn write_out<S: Store>(
     ensures wrote { OnOk result ((bytes : List ℕ) × Spells bytes image.now ×
         ((S.seen store.new).told ≡ option_map (with_file name.now bytes) (S.seen store.old).told)) }
     ensures refused { IfErr result (WriteRefused (S.seen store.old) (S.seen store.new)) }
+    ensures called { OnOk result ((S.seen store.new).calls ≡ and_calls (Writes name.now ∷ []) (S.seen store.old).calls) }
+    ensures made { IfErr result (λ _. GrewBy (AreFirst (Writes name.now ∷ [])) (S.seen store.old) (S.seen store.new)) }
 {
     let bytes = write_image(alloc, image)?;
     write_file(alloc, name, &bytes, store)
@@ -85,6 +90,7 @@ fn run_planned<S: Store, K: Sink>(
         (run_of (plan_view plan.now) (option_map string_bytes keep.now) (map message_view messages.now)) image
         (S.seen store.old) (S.seen store.new) (K.seen out.old) (K.seen out.new) (status_of result) }
     ensures spares { OthersStayThan None (option_map string_bytes keep.now) (S.seen store.old) (S.seen store.new) }
+    ensures calls { GrewBy (RecordMade (option_map string_bytes keep.now) (status_of result)) (S.seen store.old) (S.seen store.new) }
 {
     if let Some(text) = schedule {
         return run_image(alloc, image, messages, &text, out);
@@ -107,6 +113,7 @@ fn run_check<S: Store, K: Sink>(
     ensures ends { Ends (Check file.now) (S.seen store.old) (S.seen store.new)
         (K.seen out.old) (K.seen out.new) (status_of result) }
     ensures spares { Spares (Check file.now) (S.seen store.old) (S.seen store.new) }
+    ensures calls { Calls (Check file.now) (S.seen store.old) (S.seen store.new) (status_of result) }
 {
     let source = read_file(alloc, store, file, FILE_LIMIT)?;
     let text = checked_text(alloc, &source)?;
@@ -115,7 +122,8 @@ fn run_check<S: Store, K: Sink>(
 
 /// The image of the generated file of a number.
 fn generated_image(alloc: Global, number: u32) -> Result<Image, Memory>
-    ensures { IfOk result (λ image. Faithful (generated_program number) image) }
+    ensures faithful { IfOk result (λ image. Faithful (generated_program number) image) }
+    ensures small { IfOk result (λ image. length (spelling image) ≤ IMAGE_LIMIT) }
 {
     let file = gen_file(alloc, number)?;
     match check(alloc, &file) {
@@ -136,6 +144,7 @@ fn run_compile<S: Store, K: Sink>(
     ensures ends { Ends (Compile file.now name.now) (S.seen store.old) (S.seen store.new)
         (K.seen out.old) (K.seen out.new) (status_of result) }
     ensures spares { Spares (Compile file.now name.now) (S.seen store.old) (S.seen store.new) }
+    ensures calls { Calls (Compile file.now name.now) (S.seen store.old) (S.seen store.new) (status_of result) }
 {
     let source = read_file(alloc, store, file, FILE_LIMIT)?;
     let program = program_in(alloc, &source)?;
@@ -158,6 +167,8 @@ fn run_run<S: Store, K: Sink>(
         (S.seen store.old) (S.seen store.new) (K.seen out.old) (K.seen out.new) (status_of result) }
     ensures spares { Spares (Run name.now (run_of (plan_view plan.now) (option_map string_bytes keep.now) (map message_view messages.now)))
         (S.seen store.old) (S.seen store.new) }
+    ensures calls { Calls (Run name.now (run_of (plan_view plan.now) (option_map string_bytes keep.now) (map message_view messages.now)))
+        (S.seen store.old) (S.seen store.new) (status_of result) }
 {
     let (bytes, schedule) = read_run(alloc, store, name, IMAGE_LIMIT, plan)?;
     let image = image_in(alloc, &bytes)?;
@@ -180,6 +191,8 @@ fn run_go<S: Store, K: Sink>(
         (S.seen store.old) (S.seen store.new) (K.seen out.old) (K.seen out.new) (status_of result) }
     ensures spares { Spares (Go file.now name.now (run_of (plan_view plan.now) (option_map string_bytes keep.now) (map message_view messages.now)))
         (S.seen store.old) (S.seen store.new) }
+    ensures calls { Calls (Go file.now name.now (run_of (plan_view plan.now) (option_map string_bytes keep.now) (map message_view messages.now)))
+        (S.seen store.old) (S.seen store.new) (status_of result) }
 {
     let (source, schedule) = read_run(alloc, store, file, FILE_LIMIT, plan)?;
     let program = program_in(alloc, &source)?;
@@ -198,6 +211,7 @@ fn run_disasm<S: Store, K: Sink>(
     ensures ends { Ends (Disasm name.now) (S.seen store.old) (S.seen store.new)
         (K.seen out.old) (K.seen out.new) (status_of result) }
     ensures spares { Spares (Disasm name.now) (S.seen store.old) (S.seen store.new) }
+    ensures calls { Calls (Disasm name.now) (S.seen store.old) (S.seen store.new) (status_of result) }
 {
     let bytes = read_file(alloc, store, name, IMAGE_LIMIT)?;
     let image = image_in(alloc, &bytes)?;
@@ -216,6 +230,7 @@ fn run_assemble<S: Store, K: Sink>(
     ensures ends { Ends (Assemble file.now name.now) (S.seen store.old) (S.seen store.new)
         (K.seen out.old) (K.seen out.new) (status_of result) }
     ensures spares { Spares (Assemble file.now name.now) (S.seen store.old) (S.seen store.new) }
+    ensures calls { Calls (Assemble file.now name.now) (S.seen store.old) (S.seen store.new) (status_of result) }
 {
     let text = read_file(alloc, store, file, LISTING_LIMIT)?;
     let image = image_of_listing(alloc, &text)?;
@@ -233,6 +248,7 @@ fn run_gen<S: Store, K: Sink>(
     ensures ends { Ends (Gen number name.now) (S.seen store.old) (S.seen store.new)
         (K.seen out.old) (K.seen out.new) (status_of result) }
     ensures spares { Spares (Gen number name.now) (S.seen store.old) (S.seen store.new) }
+    ensures calls { Calls (Gen number name.now) (S.seen store.old) (S.seen store.new) (status_of result) }
 {
     let image = generated_image(alloc, number)?;
     write_out(alloc, name, &image, store)?;
@@ -256,6 +272,7 @@ fn obey<S: Store, K: Sink>(alloc: Global, command: &Command, store: &mut S, out:
     ensures ends { Ends (command_view command.now) (S.seen store.old) (S.seen store.new)
         (K.seen out.old) (K.seen out.new) result }
     ensures spares { Spares (command_view command.now) (S.seen store.old) (S.seen store.new) }
+    ensures calls { Calls (command_view command.now) (S.seen store.old) (S.seen store.new) result }
 {
     match command {
         Command::Check { file } => finished(run_check(alloc, file.as_str(), store, out)),
@@ -305,6 +322,8 @@ pub fn redn<S: Store, K: Sink>(
         → Ends c (S.seen store.old) (S.seen store.new) (K.seen out.old) (K.seen out.new) result }
     ensures spares { (c : CommandValue) → IsCommand (map string_bytes words.now.items) c
         → Spares c (S.seen store.old) (S.seen store.new) }
+    ensures calls { (c : CommandValue) → IsCommand (map string_bytes words.now.items) c
+        → Calls c (S.seen store.old) (S.seen store.new) result }
 
     // Other words do nothing.
     ensures no_command { ((c : CommandValue) → ¬ IsCommand (map string_bytes words.now.items) c)
@@ -316,7 +335,7 @@ pub fn redn<S: Store, K: Sink>(
     ensures demands { (files : Files) → (S.seen store.old).told ≡ Some files
         → (c : CommandValue) → IsCommand (map string_bytes words.now.items) c
         → (i : Input) → IsInput (Some files) c i → (s : Status) → First (reasons c i) s
-        → IfRead result (code_of result ≡ code_of s) }
+        → IsDemanded c (S.seen store.old) (S.seen store.new) s result }
     ensures works { (files : Files) → (S.seen store.old).told ≡ Some files
         → (c : CommandValue) → IsCommand (map string_bytes words.now.items) c
         → (i : Input) → IsInput (Some files) c i → NoneHolds (reasons c i)
