@@ -1,18 +1,21 @@
-//! A plain emulator of the adapter, by docs/formats.md and docs/definitions.md. It shares no code with crates/, and nothing is proved
-//! of it. bench/compare-runs holds what `redn run` prints against what it prints, and its speed is one to compare with.
+//! A plain emulator of the adapter, written from docs/formats.md alone. It shares no code with crates/, and nothing is proved of it.
+//! bench/compare-runs holds what `redn run` prints against what it prints, and its speed is one to compare with. As a module it tells
+//! bench/schedule_maker.rs which actions are possible.
 //!
 //! usage: plain_emulator IMAGE --fair N [CHAIN=HEX ..]
 //!        plain_emulator IMAGE --schedule FILE [CHAIN=HEX ..]
 //!
-//! The image, the schedule and the messages have to be good: nothing is checked here. It prints what `redn run` prints, and on
-//! standard error how many steps it made, and how many a second. It is built by `rustc --edition 2021 -O bench/plain_emulator.rs`.
+//! It prints what `redn run` prints, and on standard error how many steps it made, and how many a second. What the rules of images,
+//! schedules and messages forbid is looked for only so far that no such file ends it in the middle. It is built by
+//! `rustc --edition 2021 -O bench/plain_emulator.rs`.
 
 use std::collections::{HashMap, VecDeque};
 use std::fmt::Write as _;
 use std::time::Instant;
+use std::process::ExitCode;
 use std::{env, fs};
 
-type Slot = [u8; 64];
+pub type Slot = [u8; 64];
 
 fn word(bytes: &[u8], at: usize) -> u64 {
     u64::from_be_bytes(bytes[at..at + 8].try_into().unwrap())
@@ -87,28 +90,28 @@ const REMOTE_READ: u32 = 2;
 const REMOTE_WRITE: u32 = 4;
 const ATOMIC: u32 = 8;
 
-struct Flight {
-    index: u64,
+pub struct Flight {
+    pub index: u64,
     copy: Slot,
-    landed: bool,
+    pub landed: bool,
 }
 
-struct Queue {
-    domain: usize,
+pub struct Queue {
+    pub domain: usize,
     managed: bool,
     base: usize,
-    slots: u64,
-    limit: u64,
-    head: u64,
+    pub slots: u64,
+    pub limit: u64,
+    pub head: u64,
     /// By slot, the copy of the index from head on that has this slot.
     held: Vec<Option<Slot>>,
-    flights: VecDeque<Flight>,
+    pub flights: VecDeque<Flight>,
     counter: u64,
-    stopped: bool,
+    pub stopped: bool,
 }
 
 impl Queue {
-    fn held(&self, index: u64) -> Option<&Slot> {
+    pub fn held(&self, index: u64) -> Option<&Slot> {
         self.held[(index % self.slots) as usize].as_ref()
     }
 
@@ -120,13 +123,13 @@ impl Queue {
         self.head <= index && index < self.limit && index < self.head + self.slots
     }
 
-    fn unlanded(&self, index: u64) -> Option<usize> {
+    pub fn unlanded(&self, index: u64) -> Option<usize> {
         self.flights.iter().position(|f| f.index == index && !f.landed)
     }
 }
 
 #[derive(Clone, Copy)]
-enum Action {
+pub enum Action {
     Deliver(usize),
     Fetch(usize, u64),
     Start(usize),
@@ -134,14 +137,14 @@ enum Action {
     Complete(usize),
 }
 
-struct Adapter {
+pub struct Adapter {
     memory: Vec<u8>,
     regions: HashMap<u32, Region>,
-    queues: Vec<Queue>,
-    receives: Vec<(usize, usize)>,
+    pub queues: Vec<Queue>,
+    pub receives: Vec<(usize, usize)>,
     pending: Vec<Option<Vec<u8>>>,
     received: Vec<u64>,
-    events: String,
+    pub events: String,
 }
 
 fn kind_of(number: u16, table: u32) -> Kind {
@@ -181,21 +184,50 @@ fn queue_at(row: &[u8]) -> Queue {
     }
 }
 
+/// A front of some bytes and the rest, or nothing where they are too few.
+fn cut(bytes: &[u8], length: usize) -> Option<(&[u8], &[u8])> {
+    (length <= bytes.len()).then(|| bytes.split_at(length))
+}
+
+fn ends_within(base: u64, length: u64, memory: &[u8]) -> bool {
+    base.checked_add(length).is_some_and(|end| end <= memory.len() as u64)
+}
+
 impl Adapter {
-    fn open(image: &[u8], messages: HashMap<usize, Vec<u8>>) -> Adapter {
-        let [regions, queues, receives] = [8, 12, 16].map(|at| half(image, at) as usize);
-        let (rows, rest) = image[32..].split_at(32 * regions);
-        let (queue_rows, rest) = rest.split_at(32 * queues);
-        let (receive_rows, memory) = rest.split_at(16 * receives);
-        Adapter {
+    /// The adapter before its first step, with a message for each chain that is to get one; or why there is none.
+    pub fn open(image: &[u8], messages: HashMap<usize, Vec<u8>>) -> Result<Adapter, &'static str> {
+        let adapter = Adapter::laid(image).ok_or("the image is cut short")?;
+        let (memory, chains) = (&adapter.memory, adapter.receives.len());
+        let fits = |u: &Queue| u.domain < chains && u.slots > 0 && ends_within(u.base as u64, 64 * u.slots, memory);
+        let rows_fit = adapter.regions.values().all(|r| ends_within(r.base, r.length, memory)) && adapter.queues.iter().all(fits);
+        if !image.starts_with(b"REDN") || chains == 0 || !rows_fit || adapter.receives.iter().any(|r| !ends_within(r.0 as u64, r.1 as u64, memory)) {
+            return Err("the image breaks a rule of images");
+        }
+        if messages.iter().any(|(chain, bytes)| adapter.receives.get(*chain).is_none_or(|place| place.1 != bytes.len())) {
+            return Err("a message has no chain, or not the length of its place");
+        }
+        let pending = (0..chains).map(|chain| messages.get(&chain).cloned()).collect();
+        Ok(Adapter { pending, ..adapter })
+    }
+
+    /// What an image says, with no message to come.
+    fn laid(image: &[u8]) -> Option<Adapter> {
+        let (header, rest) = cut(image, 32)?;
+        let [regions, queues, receives] = [8, 12, 16].map(|at| half(header, at) as usize);
+        let (rows, rest) = cut(rest, 32 * regions)?;
+        let (queue_rows, rest) = cut(rest, 32 * queues)?;
+        let (receive_rows, memory) = cut(rest, 16 * receives)?;
+        // Each slot of a queue has bytes of the image, so a number above their length is wrong.
+        let queue_rows = queue_rows.chunks(32).map(|row| (word(row, 16) <= image.len() as u64).then(|| queue_at(row)));
+        Some(Adapter {
             memory: memory.to_vec(),
             regions: rows.chunks(32).map(region_at).collect(),
-            queues: queue_rows.chunks(32).map(queue_at).collect(),
+            queues: queue_rows.collect::<Option<_>>()?,
             receives: receive_rows.chunks(16).map(|row| (word(row, 0) as usize, word(row, 8) as usize)).collect(),
-            pending: (0..receives).map(|chain| messages.get(&chain).cloned()).collect(),
+            pending: Vec::new(),
             received: vec![0; receives],
             events: String::new(),
-        }
+        })
     }
 
     fn counter(&self, domain: usize, number: u64) -> Option<u64> {
@@ -205,7 +237,7 @@ impl Adapter {
         self.queues.get(number as usize).filter(|u| u.domain == domain).map(|u| u.counter)
     }
 
-    fn may_start(&self, u: &Queue) -> bool {
+    pub fn may_start(&self, u: &Queue) -> bool {
         let Some(copy) = u.held(u.head) else { return false };
         match quarter(copy, 0) {
             0..=5 => (u.flights.len() as u64) < u.slots,
@@ -214,7 +246,7 @@ impl Adapter {
         }
     }
 
-    fn is_possible(&self, action: Action) -> bool {
+    pub fn is_possible(&self, action: Action) -> bool {
         let queue = |q: usize| self.queues.get(q).filter(|u| !u.stopped);
         match action {
             Action::Deliver(c) => self.pending.get(c).is_some_and(Option::is_some),
@@ -226,7 +258,7 @@ impl Adapter {
     }
 
     /// Makes a step that is possible.
-    fn step(&mut self, action: Action) {
+    pub fn step(&mut self, action: Action) {
         match action {
             Action::Deliver(c) => {
                 let (base, length) = self.receives[c];
@@ -449,22 +481,31 @@ fn act_of(a: &Adapter, q: usize) -> Option<Action> {
 
 /// The action of a line of a schedule, if it has one.
 fn action_in(line: &str) -> Option<Action> {
-    let fields: Vec<&str> = line.split(' ').collect();
-    let number = |k: usize| fields[k].parse::<u64>().unwrap();
-    match fields[0] {
-        "d" => Some(Action::Deliver(number(1) as usize)),
-        "f" => Some(Action::Fetch(number(1) as usize, number(2))),
-        "s" => Some(Action::Start(number(1) as usize)),
-        "l" => Some(Action::Land(number(1) as usize, number(2))),
-        "c" => Some(Action::Complete(number(1) as usize)),
-        _ => None,
-    }
+    let mut fields = line.split(' ');
+    let verb = fields.next()?;
+    let mut number = || fields.next()?.parse::<u64>().ok();
+    Some(match verb {
+        "d" => Action::Deliver(number()? as usize),
+        "f" => Action::Fetch(number()? as usize, number()?),
+        "s" => Action::Start(number()? as usize),
+        "l" => Action::Land(number()? as usize, number()?),
+        "c" => Action::Complete(number()? as usize),
+        _ => return None,
+    })
 }
 
-fn message_in(word: &str) -> (usize, Vec<u8>) {
-    let (chain, hex) = word.split_once('=').unwrap();
-    let bytes = (0..hex.len()).step_by(2).map(|at| u8::from_str_radix(&hex[at..at + 2], 16).unwrap());
-    (chain.parse().unwrap(), bytes.collect())
+/// The chain and the bytes of a word CHAIN=HEX.
+pub fn message_in(word: &str) -> Option<(usize, Vec<u8>)> {
+    let (chain, hex) = word.split_once('=')?;
+    let byte = |at| u8::from_str_radix(hex.get(at..at + 2)?, 16).ok();
+    Some((chain.parse().ok()?, (0..hex.len()).step_by(2).map(byte).collect::<Option<_>>()?))
+}
+
+/// The adapter of an image's file and words CHAIN=HEX, or one line that says why there is none.
+pub fn open_file(path: &str, words: &[String]) -> Result<Adapter, String> {
+    let image = fs::read(path).map_err(|e| format!("{path}: {e}"))?;
+    let messages: Option<_> = words.iter().map(|word| message_in(word)).collect();
+    Adapter::open(&image, messages.ok_or("a message isn't CHAIN=HEX")?).map_err(|why| format!("{path}: {why}"))
 }
 
 /// Makes the fair steps, so many at most, and tells how many they were and how the run ended.
@@ -479,27 +520,39 @@ fn run_fair(a: &mut Adapter, most: u64) -> (u64, &'static str) {
     (most, "steps")
 }
 
-fn run_schedule(a: &mut Adapter, text: &str) -> (u64, &'static str) {
+fn run_schedule(a: &mut Adapter, text: &str) -> Result<(u64, &'static str), String> {
     let mut made = 0;
-    for action in text.lines().filter_map(action_in) {
-        assert!(a.is_possible(action), "step {made} isn't possible");
-        a.step(action);
+    for (number, line) in text.lines().enumerate().filter(|(_, line)| !line.is_empty() && !line.starts_with('#')) {
+        let action = action_in(line).filter(|action| a.is_possible(*action));
+        a.step(action.ok_or_else(|| format!("line {} of the schedule can't be made", number + 1))?);
         made += 1;
     }
-    (made, "schedule")
+    Ok((made, "schedule"))
 }
 
-fn main() {
-    let words: Vec<String> = env::args().collect();
-    let messages = words[4..].iter().map(|word| message_in(word)).collect();
-    let mut adapter = Adapter::open(&fs::read(&words[1]).unwrap(), messages);
-    let text = if words[2] == "--schedule" { fs::read_to_string(&words[3]).unwrap() } else { String::new() };
+fn run(words: &[String]) -> Result<(), String> {
+    let [image, plan, value, messages @ ..] = words else {
+        return Err("usage: plain_emulator IMAGE --fair N|--schedule FILE [CHAIN=HEX ..]".to_string());
+    };
+    let mut adapter = open_file(image, messages)?;
+    let text = if plan == "--schedule" { fs::read_to_string(value).map_err(|e| format!("{value}: {e}"))? } else { String::new() };
     let begun = Instant::now();
-    let (steps, end) = match words[2].as_str() {
-        "--fair" => run_fair(&mut adapter, words[3].parse().unwrap()),
-        _ => run_schedule(&mut adapter, &text),
+    let (steps, end) = match plan.as_str() {
+        "--schedule" => run_schedule(&mut adapter, &text)?,
+        _ => run_fair(&mut adapter, value.parse().map_err(|_| format!("{value} is no number"))?),
     };
     let seconds = begun.elapsed().as_secs_f64();
     print!("{}end {end}\n", adapter.events);
     eprintln!("{steps} steps, {:.0} a second", steps as f64 / seconds);
+    Ok(())
+}
+
+pub fn main() -> ExitCode {
+    match run(&env::args().skip(1).collect::<Vec<_>>()) {
+        Ok(()) => ExitCode::SUCCESS,
+        Err(why) => {
+            eprintln!("plain_emulator: {why}");
+            ExitCode::FAILURE
+        }
+    }
 }
