@@ -12,21 +12,13 @@ use Rattle.redn_graph.specs.Fits.{Things, IsCell, IsTarget}
 use Rattle.redn_segment.specs.declared.types.Space.TheVariants as space
 use Rattle.redn_segment.specs.Plain.{Bytes}
 use Rattle.redn_segment.specs.Effects.{word_of, holding}
-use Rattle.redn_segment.specs.Effects as effects
 use Rattle.redn_block.specs.Blocks.{IsWord}
 use Rattle.redn_block.specs.Matches.{Same}
 
-pub target_of : (n : Things) (to : Cell) → IsTarget n to → effects.IsTarget to
-target_of n (Var x) h = tt
-target_of n (Hidden k) h = tt
-target_of n (Argument i) h = h
-target_of n (Num v) h = h
-
 pub cell_of_target : (n : Things) (to : Cell) → IsTarget n to → IsCell n to × IsWord to
-cell_of_target n (Var x) h = (h, tt)
-cell_of_target n (Hidden k) h = (h, tt)
 cell_of_target n (Argument i) h = absurd h
 cell_of_target n (Num v) h = absurd h
+cell_of_target n _ h = (h, tt)
 
 module _ (n : Things) (words : List ℕ) (c : Cells) (s : Bytes) (h : Same n words c s) (bytes : List ℕ) (v : ℕ) (is : word bytes 0 ≡ v) where
   var_put : (x y : ℕ) → x < n.vars → y < n.vars → word_of (holding s (space.Cell (Var x)) bytes) (Var y) ≡ slice_index (slice_set c.vars x v) y
@@ -69,8 +61,7 @@ module _ (n : Things) (words : List ℕ) (c : Cells) (s : Bytes) (h : Same n wor
   many_put : (to : Cell) → IsTarget n to → length (put c to v).vars ≡ n.vars
   many_put (Var x) l = length-set c.vars x v ∙ h.many
   many_put (Hidden j) l = h.many
-  many_put (Argument i) l = absurd l
-  many_put (Num u) l = absurd l
+  many_put _ l = absurd l
 
   -- a cell gets a word
   pub same_put : (to : Cell) → IsTarget n to → Same n words (put c to v) (holding s (space.Cell to) bytes)

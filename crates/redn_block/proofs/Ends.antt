@@ -2,7 +2,6 @@
 use Rattle.std.proofs.Common.{◌≡◌, ℕ, ◌+◌, ◌%◌, ◌^◌, ◌≤◌, Bool, true, false, cond, List, [], ◌∷◌, length, map, Some, None, refl, sym, ap, ◌∙◌, subst, arith}
 use Rattle.std.specs.Prelude.{slice_get, ◌==◌, if◌then◌else◌}
 use Rattle.std.specs.List.{All}
-use Rattle.std.proofs.lemmas.Bool.{and_from, eq-eqb}
 use Rattle.std.proofs.lemmas.List.{length-map}
 use Rattle.std.proofs.lemmas.List.Elements.{All-head, All-tail}
 use Rattle.redn_words.proofs.Places.{bytes_at-same}
@@ -31,15 +30,12 @@ use Rattle.redn_block.specs.Matches.{Same, IsAt, Chooses, IsOver, Onward, Ended}
 use Rattle.redn_block.proofs.Spelled.{eight_words}
 use Rattle.redn_block.proofs.Cells.{same_put, same_cells}
 use Rattle.redn_block.proofs.Instrs.{one_step, two_steps, load_alone, true_of_load, stored_by_load, SawWord}
+use Rattle.redn_segment.proofs.SlotBytes.{same_self as itself_same}
 
 -- bytes that were put somewhere stand there
 pub put_stands : (b new : List ℕ) (o k : ℕ) → length new ≡ k → o + k ≤ length b → bytes_at (with_bytes_at b o new) o k ≡ new
 put_stands b new o k long fits =
     subst (λ (n : ℕ). bytes_at (with_bytes_at b o new) o n ≡ new) long (bytes_at-same b new o (omega arith))
-
-itself_same : (q : SlotRef) → same_space (space.Slot q) (space.Slot q) ≡ true
-itself_same q =
-    and_from (q.ring == q.ring) (q.slot == q.slot) (eq-eqb q.ring q.ring refl) (eq-eqb q.slot q.slot refl)
 
 held_all : (n : Things) (words : List ℕ) (c : Cells) (s : Bytes) → Same n words c s → (cells : List Cell) → All (IsCell n) cells → All IsWord cells → map (word_of s) cells ≡ map (held words c) cells
 held_all n words c s same [] fits small = refl

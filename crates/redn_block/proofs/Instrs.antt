@@ -49,33 +49,25 @@ module _ (c : ℕ) (words : List ℕ) (g : Graph) where
   pub two_steps : (x y z : GraphState) (e f : Obs) (events : List Obs) → StepTells c words g x e y → StepTells c words g y f z → e ∷ f ∷ [] ≡ events → Leads c words g x events z
   two_steps x y z e f events first second is = subst (λ (l : List Obs). Leads c words g x l z) is (y, first, (z, second, refl))
 
-abbrev pub put_event : ℕ → Cell → ℕ → List Obs
-put_event c to v = told (shown_put c to v)
-
 -- events of targets
 set_told : (n : Things) (c : ℕ) (to : Cell) (v w : ℕ) → IsTarget n to → w ≡ v → told (shown_put c to v) ≡ set_event c to w
 set_told n c (Var x) v w l e = ap (λ (u : ℕ). shows.Set c x u ∷ []) (sym e)
 set_told n c (Hidden k) v w l e = refl
-set_told n c (Argument i) v w l e = absurd l
-set_told n c (Num u) v w l e = absurd l
+set_told n c _ v w l e = absurd l
 
 true_of_put : (tables : List (List ℕ)) (c : ℕ) (to : Cell) (v : ℕ) → stored tables (shown_put c to v) ≡ tables
 true_of_put tables c (Var x) v = refl
-true_of_put tables c (Hidden k) v = refl
-true_of_put tables c (Argument i) v = refl
-true_of_put tables c (Num u) v = refl
+true_of_put tables c _ v = refl
 
 pub load_told : (n : Things) (c : ℕ) (to : Cell) (t o w : ℕ) → IsTarget n to → told (shown_load c to t o w) ≡ load_event c to t o w
-load_told n c (Var x) t o w l = refl
-load_told n c (Hidden k) t o w l = refl
 load_told n c (Argument i) t o w l = absurd l
 load_told n c (Num u) t o w l = absurd l
+load_told n c _ t o w l = refl
 
 pub load_alone : (n : Things) (c : ℕ) (to : Cell) (t o w : ℕ) → IsTarget n to → shown_load c to t o w ∷ [] ≡ load_event c to t o w
-load_alone n c (Var x) t o w l = refl
-load_alone n c (Hidden k) t o w l = refl
 load_alone n c (Argument i) t o w l = absurd l
 load_alone n c (Num u) t o w l = absurd l
+load_alone n c _ t o w l = refl
 
 -- what a load says of the tables
 pub record SawWord (tables : List (List ℕ)) (t o w : ℕ) : Type 0 where
@@ -83,16 +75,13 @@ pub record SawWord (tables : List (List ℕ)) (t o w : ℕ) : Type 0 where
   pub is : word_in tables t o ≡ w
 
 pub true_of_load : (n : Things) (tables : List (List ℕ)) (c : ℕ) (to : Cell) (t o w : ℕ) → IsTarget n to → IsTrueOf tables (shown_load c to t o w) → SawWord tables t o w
-true_of_load n tables c (Var x) t o w l h = record { has = h.0; is = h.1 }
-true_of_load n tables c (Hidden k) t o w l h = record { has = h.0; is = h.1 }
 true_of_load n tables c (Argument i) t o w l h = absurd l
 true_of_load n tables c (Num u) t o w l h = absurd l
+true_of_load n tables c _ t o w l h = record { has = h.0; is = h.1 }
 
 pub stored_by_load : (tables : List (List ℕ)) (c : ℕ) (to : Cell) (t o w : ℕ) → stored tables (shown_load c to t o w) ≡ tables
 stored_by_load tables c (Var x) t o w = refl
-stored_by_load tables c (Hidden k) t o w = refl
-stored_by_load tables c (Argument i) t o w = refl
-stored_by_load tables c (Num u) t o w = refl
+stored_by_load tables c _ t o w = refl
 
 module _ (c : ℕ) (words : List ℕ) (g : Graph) (n : Things) (block place : ℕ) (b : Block) (there : slice_get g.blocks block ≡ Some b) (x : GraphState) (at_x : IsAt block place x) where
   -- the step of an instruction

@@ -8,7 +8,7 @@ use Rattle.std.proofs.lemmas.List.Sums.{sum_by-cons}
 use Rattle.redn_kernel.specs.declared.types.Cell.{Cell}
 use Rattle.redn_kernel.specs.declared.types.Cell.TheVariants as cell
 use Rattle.redn_graph.specs.declared.types.Instr.{Instr}
-use Rattle.redn_graph.specs.declared.types.Instr.TheVariants.{Set, Move, Add, Load, Store}
+use Rattle.redn_graph.specs.declared.types.Instr.TheVariants.{Set, Add}
 use Rattle.redn_graph.specs.declared.types.Block.{Block}
 use Rattle.redn_graph.specs.Slots.{instr_slots, block_slots}
 use Rattle.redn_segment.specs.declared.types.SlotRef.{SlotRef}
@@ -23,26 +23,17 @@ use Rattle.redn_block.specs.Blocks.{Part, instr_part, part_segments, part_size, 
 -- an instruction has at most so many drafts
 add_small : (slot : ℕ → SlotRef) (to by : Cell) → length (drafts_of (add_segments slot to by)) ≤ 2
 add_small slot to (cell.Num n) = omega arith
-add_small slot to (cell.Var x) = omega arith
-add_small slot to (cell.Hidden k) = omega arith
-add_small slot to (cell.Argument i) = omega arith
+add_small slot to _ = omega arith
 
 pub instr_small : (at : SlotRef) (i : Instr) → part_size at (instr_part i) ≤ 2
-instr_small at (Set to v) = omega arith
-instr_small at (Move to from) = omega arith
 instr_small at (Add to by) = add_small (slots_from at) to by
-instr_small at (Load to t offset) = omega arith
-instr_small at (Store t offset from) = omega arith
+instr_small at _ = omega arith
 
 some_slots : (i : Instr) → 5 ≤ instr_slots i
 some_slots (Set to v) = omega arith
-some_slots (Move to from) = omega arith
 some_slots (Add to (cell.Num n)) = omega arith
-some_slots (Add to (cell.Var x)) = omega arith
-some_slots (Add to (cell.Hidden k)) = omega arith
-some_slots (Add to (cell.Argument j)) = omega arith
-some_slots (Load to t offset) = omega arith
-some_slots (Store t offset from) = omega arith
+some_slots (Add to _) = omega arith
+some_slots _ = omega arith
 
 pub few_instrs : (is : List Instr) → 5 * length is ≤ sum_by instr_slots is
 few_instrs [] = omega arith

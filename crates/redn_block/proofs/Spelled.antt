@@ -1,15 +1,12 @@
 -- Words of cells.
-use Rattle.std.proofs.Common.{◌≡◌, ℕ, ◌^◌, ◌<◌, ◌≤◌, List, [], ◌∷◌, length, map, refl, sym, arith}
+use Rattle.std.proofs.Common.{◌≡◌, ℕ, ◌^◌, ◌<◌, ◌≤◌, List, [], ◌∷◌, length, map, refl, arith}
 use Rattle.std.specs.Prelude.{slice_index}
-use Rattle.redn_words.specs.Words.{bytes_at, word, spelled}
-use Rattle.redn_words.proofs.Numbers.{number-spelled, number-bytes_at}
+use Rattle.redn_words.specs.Words.{word, spelled}
+use Rattle.redn_words.proofs.Numbers.{number-spelled}
 use Rattle.redn_kernel.specs.Source.{eight}
 
 pub word_spelled : (v : ℕ) → v < 2 ^ 64 → word (spelled 8 v) 0 ≡ v
 word_spelled v h = number-spelled 8 v (omega arith)
-
-pub word_at_front : (b : List ℕ) (o : ℕ) → word (bytes_at b o 8) 0 ≡ word b o
-word_at_front b o = sym (number-bytes_at 8 b o)
 
 -- up to eight words, and 0 past them
 pub eight_words : (ws : List ℕ) → length ws ≤ 8 → map (λ (k : ℕ). slice_index ws k) (0 ∷ 1 ∷ 2 ∷ 3 ∷ 4 ∷ 5 ∷ 6 ∷ 7 ∷ []) ≡ eight ws

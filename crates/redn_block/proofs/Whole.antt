@@ -69,11 +69,8 @@ last_of at (i ∷ is) e = last_of (slot_behind at (part_size at (instr_part i)))
 
 -- it stands behind all drafts
 size_of_end : (most first : ℕ) (at : SlotRef) (e : End) → EndFits most first e → last_slot at e ≡ slot_behind at (part_size at (end_part first e))
-size_of_end most first at (Jump to) fits = refl
-size_of_end most first at (Test48 left right met unmet) fits = refl
-size_of_end most first at (Test64 left right met unmet) fits = refl
-size_of_end most first at (Probe to t offset key hit miss) fits = refl
 size_of_end most first at (Reply words) fits = ap (slot_behind at) (sym (count words fits.0 fits.1))
+size_of_end most first at _ fits = refl
 
 pub last_is : (most first : ℕ) (is : List Instr) (e : End) (at : SlotRef) → EndFits most first e → last_of at is e ≡ slot_behind at (length (drafts_of (segments_of first at is e)))
 last_is most first [] e at fits = size_of_end most first at e fits ∙ ap (λ (l : List (List Draft)). slot_behind at (length (drafts_of l))) (sym (append-nil (part_segments at (end_part first e))))

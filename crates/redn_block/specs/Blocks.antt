@@ -31,7 +31,8 @@ instr_part (Set to v) = part (λ (slot : ℕ → SlotRef). move.move_word slot t
 instr_part (Move to from) = part (λ (slot : ℕ → SlotRef). move.move_word slot to from) (λ (slot : ℕ → SlotRef). moves to from)
 instr_part (Add to by) = part (λ (slot : ℕ → SlotRef). add_segments slot to by) (λ (slot : ℕ → SlotRef). adds to by)
 instr_part (Load to table offset) = part (λ (slot : ℕ → SlotRef). move.load slot to table offset) (λ (slot : ℕ → SlotRef). loads to table offset (slot 1))
-instr_part (Store table offset from) = part (λ (slot : ℕ → SlotRef). move.store slot table offset from) (λ (slot : ℕ → SlotRef). stores table offset from (slot 1))
+instr_part (Store table offset from) = part (λ (slot : ℕ → SlotRef). move.store slot table offset from) (λ (slot : ℕ
+    → SlotRef). stores table offset from (slot 1))
 
 -- the number of the ring of a block, where rings are numbered from one on
 abbrev pub ring_of : ℕ → ℕ → ℕ
@@ -39,9 +40,15 @@ ring_of first block = first + block
 
 abbrev pub end_part : ℕ → End → Part
 end_part first (Jump to) = part (λ (slot : ℕ → SlotRef). move.jump slot (ring_of first to)) (λ (slot : ℕ → SlotRef). jumps (ring_of first to) (slot 1))
-end_part first (Test48 left right met unmet) = part (λ (slot : ℕ → SlotRef). test.test48 slot left right (ring_of first met) (ring_of first unmet)) (λ (slot : ℕ → SlotRef). tests_low left right (ring_of first met) (ring_of first unmet) (slot 6))
-end_part first (Test64 left right met unmet) = part (λ (slot : ℕ → SlotRef). test.test64 slot left right (ring_of first met) (ring_of first unmet)) (λ (slot : ℕ → SlotRef). tests_all left right (ring_of first met) (ring_of first unmet) (slot 10))
-end_part first (Probe to table offset key hit miss) = part (λ (slot : ℕ → SlotRef). test.probe slot to table offset key (ring_of first hit) (ring_of first miss)) (λ (slot : ℕ → SlotRef). probes to table offset key (ring_of first hit) (ring_of first miss) (slot 6) (slot 13) (slot 15))
+end_part first (Test48 left right met unmet) = part (λ (slot : ℕ
+    → SlotRef). test.test48 slot left right (ring_of first met) (ring_of first unmet)) (λ (slot : ℕ
+    → SlotRef). tests_low left right (ring_of first met) (ring_of first unmet) (slot 6))
+end_part first (Test64 left right met unmet) = part (λ (slot : ℕ
+    → SlotRef). test.test64 slot left right (ring_of first met) (ring_of first unmet)) (λ (slot : ℕ
+    → SlotRef). tests_all left right (ring_of first met) (ring_of first unmet) (slot 10))
+end_part first (Probe to table offset key hit miss) = part (λ (slot : ℕ
+    → SlotRef). test.probe slot to table offset key (ring_of first hit) (ring_of first miss)) (λ (slot : ℕ
+    → SlotRef). probes to table offset key (ring_of first hit) (ring_of first miss) (slot 6) (slot 13) (slot 15))
 end_part first (Reply words) = part (λ (slot : ℕ → SlotRef). reply words) (λ (slot : ℕ → SlotRef). replies words)
 
 abbrev pub parts_of : ℕ → Block → List Part

@@ -50,9 +50,12 @@ module _ (chain : ℕ) (words : List ℕ) (g : Graph) (n : Things) where
   abbrev pub DraftsFollow : ℕ → ℕ → ℕ → Block → Type 0
   DraftsFollow first ring block b =
       let ds : List Draft = drafts_of (block_segments first ring b) in
-      (view : View) → view.number ≡ chain → SeesBytes view → (s : Bytes) → IsWhole s → HasRoom s → Primed ds (ring_start ring) ds s → (x : GraphState) → IsAt block 0 x → Same n words x.cells s → Beside x (IsOver first (slot_behind (ring_start ring) (length ds)) s) s (runs view (ring_start ring) ds s)
+      (view : View) → view.number ≡ chain → SeesBytes view → (s : Bytes) → IsWhole s → HasRoom s → Primed ds (ring_start ring) ds s
+      → (x : GraphState) → IsAt block 0 x → Same n words x.cells s
+      → Beside x (IsOver first (slot_behind (ring_start ring) (length ds)) s) s (runs view (ring_start ring) ds s)
 
 -- so for each block of a graph, whatever its chain's number and message are
 abbrev pub BlockFollows : ℕ → ℕ → Block → Type 0
 BlockFollows first ring b =
-    (chain : ℕ) (words : List ℕ) (g : Graph) (n : Things) (block : ℕ) → slice_get g.blocks block ≡ Some b → FitsBlock n b → DraftsFollow chain words g n first ring block b
+    (chain : ℕ) (words : List ℕ) (g : Graph) (n : Things) (block : ℕ) → slice_get g.blocks block ≡ Some b → FitsBlock n b
+    → DraftsFollow chain words g n first ring block b

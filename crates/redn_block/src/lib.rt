@@ -1,4 +1,6 @@
-//! A block of a graph as a ring of drafts.
+//! A block of a graph as a ring of drafts: the templates of its instructions, one after the other, and
+//! then the one of its end. The contract says that the ring does what the block does, and which words
+//! the block needs.
 #![tactic(auto)]
 
 mod blocks;

@@ -1,8 +1,8 @@
 -- Test64 chooses by all 64 bits.
-use Rattle.std.proofs.Common.{◌≡◌, ℕ, ◌/◌, ◌^◌, Bool, true, false, ◌++◌, List, [], ◌∷◌, length, take, refl, sym, ap, ◌∙◌, arith}
+use Rattle.std.proofs.Common.{◌≡◌, ℕ, ◌/◌, ◌^◌, Bool, true, false, ◌++◌, List, [], ◌∷◌, length, take, refl, sym, ap, ◌∙◌, arith, map}
 use Rattle.std.specs.Prelude.{◌==◌, if◌then◌else◌}
 use Rattle.std.proofs.lemmas.Bool.{eqb-true, eqb-false}
-use Rattle.redn_words.specs.declared.types.Opcode.TheVariants.{Write, Cas}
+use Rattle.redn_words.specs.declared.types.Opcode.TheVariants.{Noop, Write, Cas}
 use Rattle.redn_words.specs.Words.{bytes_at, word, spelled, low_48, number}
 use Rattle.redn_words.proofs.Numbers.{length-spelled}
 use Rattle.redn_kernel.specs.declared.types.Cell.{Cell}
@@ -16,7 +16,7 @@ use Rattle.redn_segment.specs.Building.{drafts_of}
 use Rattle.redn_segment.specs.Drafts.{field, swap_in, turnable, clear, fill_low, fill_high, compare_low, compare_high, choose, write_word, cas_word}
 use Rattle.redn_segment.specs.Plain.{Bytes, View, Put, put, with_put, placed, Went, runs, opcode_in, first_in, second_in}
 use Rattle.redn_segment.specs.Primed.{IsWhole, HasRoom, IsPrimed, Primed, writes_slot}
-use Rattle.redn_segment.specs.Effects.{word_of, Effect, Leaves, Meets, tests_all, chosen}
+use Rattle.redn_segment.specs.Effects.{word_of, Effect, Leaves, Meets, tests_all, chosen, jumps}
 use Rattle.redn_segment.proofs.Quiet.{cell_is_source}
 use Rattle.redn_segment.proofs.Steps.{steps_noop, steps_fill, steps_cas, goes_on}
 use Rattle.redn_segment.proofs.Kept.{opcode_kept, bytes_kept, opcode_is, word_is, draft_opcode, draft_second}
@@ -32,6 +32,7 @@ use Rattle.redn_segment.proofs.Telling.{tells}
 use Rattle.redn_segment.proofs.Appending.{IsTemplate}
 use Rattle.redn_segment.proofs.Suiting.{suiting}
 use Rattle.redn_cas.specs.Tests.{test64}
+use Rattle.redn_cas.specs.WithoutCas.{without_cas}
 
 module _ (chain : View) (s : Bytes) (left right : Cell) (same other : ℕ) where
   abbrev ds : List Draft
@@ -86,25 +87,25 @@ module _ (chain : View) (s : Bytes) (left right : Cell) (same other : ℕ) where
   abbrev draft9 : Draft
   draft9 = turnable (site.Descriptor same) (field (own 10) 40 16) 16 0
 
-  abbrev later : List Draft
-  later = draft6 ∷ draft7 ∷ draft8 ∷ draft9 ∷ []
+  abbrev later : Draft → List Draft
+  later d6 = d6 ∷ draft7 ∷ draft8 ∷ draft9 ∷ []
 
-  module _ (whole : IsWhole s) (room : HasRoom s) (primed : Primed ds (own 0) ds s) where
-    abbrev primed6_on : Primed ds (own 6) later s
-    primed6_on = primed.1.1.1.1.1.1
+  -- with this at slot 6
+  abbrev with_swap : Draft → List Draft
+  with_swap d6 = draft0 ∷ draft1 ∷ draft2 ∷ draft3 ∷ draft4 ∷ draft5 ∷ later d6
 
-    primed6 : IsPrimed (writes_slot ds (own 6)) draft6 (s (slot 6))
-    primed6 = primed6_on.0
+  -- with a NOOP in place of the CAS
+  abbrev plain6 : Draft
+  plain6 = without_cas draft6
 
-    primed8 : IsPrimed (writes_slot ds (own 8)) draft8 (s (slot 8))
-    primed8 = primed6_on.1.1.0
+  abbrev plain_ds : List Draft
+  plain_ds = map without_cas ds
 
-    primed9 : IsPrimed (writes_slot ds (own 9)) draft9 (s (slot 9))
-    primed9 = primed6_on.1.1.1.0
+  -- after the first n pieces
+  abbrev after : ℕ → List Piece → Bytes
+  after n us = placed s (puts_of (take n us))
 
-    last_long : length (s (slot 10)) ≡ 64
-    last_long = primed6_on.1.1.1.1
-
+  module _ (whole : IsWhole s) (room : HasRoom s) where
     two : length zeros ≡ 2
     two = length_at _ 0 2 8 (whole.cells (Num 0)).0 (omega arith)
 
@@ -117,178 +118,211 @@ module _ (chain : View) (s : Bytes) (left right : Cell) (same other : ℕ) where
     sized : AreSized fills
     sized = (two, (low_long left, (low_long right, (two, (high_long left, (high_long right, tt))))))
 
-    -- after the first n pieces
-    abbrev after : ℕ → List Piece → Bytes
-    after n us = placed s (puts_of (take n us))
-
-    runs_fills : (us : List Put) → runs chain (own 6) later filled ≡ Went us [] → runs chain (own 0) ds s ≡ Went (puts_of fills ++ us) []
-    runs_fills us h =
-        goes_on chain (own 0) draft0 s (draft1 ∷ draft2 ∷ draft3 ∷ draft4 ∷ draft5 ∷ later) _ _ _ _ (steps_fill chain (own 0) draft0 s (opcode_kept (writes_slot ds (own 0)) draft0 _ primed.0 tt refl) refl refl refl refl) (goes_on chain (own 1) draft1 (after 1 fills) (draft2 ∷ draft3 ∷ draft4 ∷ draft5 ∷ later) _ _ _ _ (steps_fill chain (own 1) draft1 (after 1 fills) (opcode_kept (writes_slot ds (own 1)) draft1 _ primed.1.0 tt refl) refl refl (cell_is_source left) refl) (goes_on chain (own 2) draft2 (after 2 fills) (draft3 ∷ draft4 ∷ draft5 ∷ later) _ _ _ _ (steps_fill chain (own 2) draft2 (after 2 fills) (opcode_kept (writes_slot ds (own 2)) draft2 _ primed.1.1.0 tt refl) refl refl (cell_is_source right) refl) (goes_on chain (own 3) draft3 (after 3 fills) (draft4 ∷ draft5 ∷ later) _ _ _ _ (steps_fill chain (own 3) draft3 (after 3 fills) (opcode_kept (writes_slot ds (own 3)) draft3 _ primed.1.1.1.0 tt refl) refl refl refl refl) (goes_on chain (own 4) draft4 (after 4 fills) (draft5 ∷ later) _ _ _ _ (steps_fill chain (own 4) draft4 (after 4 fills) (opcode_kept (writes_slot ds (own 4)) draft4 _ primed.1.1.1.1.0 tt refl) refl refl (cell_is_source left) refl) (goes_on chain (own 5) draft5 (after 5 fills) later _ _ _ _ (steps_fill chain (own 5) draft5 (after 5 fills) (opcode_kept (writes_slot ds (own 5)) draft5 _ primed.1.1.1.1.1.0 tt refl) refl refl (cell_is_source right) refl) h)))))
-
     reads_filled : (k : ℕ) → length (s (slot k)) ≡ 64 → fit (slot k) 64 fills ≡ true → (o n : ℕ) → clean (slot k) o n fills ≡ true → bytes_at (filled (slot k)) o n ≡ seen (slot k) o n fills (bytes_at (s (slot k)) o n)
     reads_filled k long f o n = reads (slot k) 64 o n fills s sized f long
 
-    op6 : opcode_in (filled (slot 6)) ≡ Cas
-    op6 = opcode_is Cas _ (reads_filled 6 primed6.len refl 0 2 refl ∙ (bytes_kept (writes_slot ds (own 6)) draft6 _ primed6 0 2 refl (omega arith) ∙ draft_opcode draft6)) tt
+    -- whatever stands at slot 6
+    module _ (d6 : Draft) (primed : Primed ds (own 0) (with_swap d6) s) where
+      abbrev primed6_on : Primed ds (own 6) (later d6) s
+      primed6_on = primed.1.1.1.1.1.1
 
-    new6 : second_in (filled (slot 6)) ≡ cas_word
-    new6 = word_is 8 cas_word 48 _ (reads_filled 6 primed6.len refl 48 8 refl ∙ (bytes_kept (writes_slot ds (own 6)) draft6 _ primed6 48 8 refl (omega arith) ∙ draft_second draft6)) (omega arith)
+      primed6 : IsPrimed (writes_slot ds (own 6)) d6 (s (slot 6))
+      primed6 = primed6_on.0
 
-    operand6 : first_in (filled (slot 6)) ≡ low_48 (word_of s right)
-    unfolding spelled
-    operand6 = operand_filled _ (low right) (reads_filled 6 primed6.len refl 40 2 refl ∙ bytes_kept (writes_slot ds (own 6)) draft6 _ primed6 40 2 refl (omega arith)) (reads_filled 6 primed6.len refl 42 6 refl) ∙ low_of (s (space.Cell right)) (whole.cells right).1
+      primed8 : IsPrimed (writes_slot ds (own 8)) draft8 (s (slot 8))
+      primed8 = primed6_on.1.1.0
 
-    clear8 : bytes_at (filled (slot 8)) 0 2 ≡ 0 ∷ 0 ∷ []
-    clear8 = reads_filled 8 primed8.len refl 0 2 refl ∙ clear_bytes _ (whole.numbers 0)
+      primed9 : IsPrimed (writes_slot ds (own 9)) draft9 (s (slot 9))
+      primed9 = primed6_on.1.1.1.0
 
-    clear9 : bytes_at (filled (slot 9)) 0 2 ≡ 0 ∷ 0 ∷ []
-    clear9 = reads_filled 9 primed9.len refl 0 2 refl ∙ clear_bytes _ (whole.numbers 0)
+      last_long : length (s (slot 10)) ≡ 64
+      last_long = primed6_on.1.1.1.1
 
-    abbrev word8 : ℕ
-    word8 = word (bytes_at (filled (slot 8)) 0 8) 0
+      runs_fills : (us : List Put) → runs chain (own 6) (later d6) filled ≡ Went us [] → runs chain (own 0) (with_swap d6) s ≡ Went (puts_of fills ++ us) []
+      runs_fills us h =
+          goes_on chain (own 0) draft0 s (draft1 ∷ draft2 ∷ draft3 ∷ draft4 ∷ draft5 ∷ (later d6)) _ _ _ _ (steps_fill chain (own 0) draft0 s (opcode_kept (writes_slot ds (own 0)) draft0 _ primed.0 tt refl) refl refl refl refl) (goes_on chain (own 1) draft1 (after 1 fills) (draft2 ∷ draft3 ∷ draft4 ∷ draft5 ∷ (later d6)) _ _ _ _ (steps_fill chain (own 1) draft1 (after 1 fills) (opcode_kept (writes_slot ds (own 1)) draft1 _ primed.1.0 tt refl) refl refl (cell_is_source left) refl) (goes_on chain (own 2) draft2 (after 2 fills) (draft3 ∷ draft4 ∷ draft5 ∷ (later d6)) _ _ _ _ (steps_fill chain (own 2) draft2 (after 2 fills) (opcode_kept (writes_slot ds (own 2)) draft2 _ primed.1.1.0 tt refl) refl refl (cell_is_source right) refl) (goes_on chain (own 3) draft3 (after 3 fills) (draft4 ∷ draft5 ∷ (later d6)) _ _ _ _ (steps_fill chain (own 3) draft3 (after 3 fills) (opcode_kept (writes_slot ds (own 3)) draft3 _ primed.1.1.1.0 tt refl) refl refl refl refl) (goes_on chain (own 4) draft4 (after 4 fills) (draft5 ∷ (later d6)) _ _ _ _ (steps_fill chain (own 4) draft4 (after 4 fills) (opcode_kept (writes_slot ds (own 4)) draft4 _ primed.1.1.1.1.0 tt refl) refl refl (cell_is_source left) refl) (goes_on chain (own 5) draft5 (after 5 fills) (later d6) _ _ _ _ (steps_fill chain (own 5) draft5 (after 5 fills) (opcode_kept (writes_slot ds (own 5)) draft5 _ primed.1.1.1.1.1.0 tt refl) refl refl (cell_is_source right) refl) h)))))
 
-    abbrev word9 : ℕ
-    word9 = word (bytes_at (filled (slot 9)) 0 8) 0
+      clear8 : bytes_at (filled (slot 8)) 0 2 ≡ 0 ∷ 0 ∷ []
+      clear8 = reads_filled 8 primed8.len refl 0 2 refl ∙ clear_bytes _ (whole.numbers 0)
 
-    word8_is : word8 ≡ low_48 (word_of s left)
-    word8_is = word_filled _ (low left) clear8 (reads_filled 8 primed8.len refl 2 6 refl) ∙ low_of (s (space.Cell left)) (whole.cells left).1
+      clear9 : bytes_at (filled (slot 9)) 0 2 ≡ 0 ∷ 0 ∷ []
+      clear9 = reads_filled 9 primed9.len refl 0 2 refl ∙ clear_bytes _ (whole.numbers 0)
 
-    word9_is : word9 ≡ word_of s left / 2 ^ 16
-    word9_is = word_filled _ (high left) clear9 (reads_filled 9 primed9.len refl 2 6 refl) ∙ high_of (s (space.Cell left)) (whole.cells left).1
+    module _ (primed : Primed ds (own 0) ds s) where
+      op6 : opcode_in (filled (slot 6)) ≡ Cas
+      op6 = opcode_is Cas _ (reads_filled 6 (primed6 draft6 primed).len refl 0 2 refl ∙ (bytes_kept (writes_slot ds (own 6)) draft6 _ (primed6 draft6 primed) 0 2 refl (omega arith) ∙ draft_opcode draft6)) tt
 
-    abbrev same_low : Bool
-    same_low = low_48 (word_of s left) == low_48 (word_of s right)
+      new6 : second_in (filled (slot 6)) ≡ cas_word
+      new6 = word_is 8 cas_word 48 _ (reads_filled 6 (primed6 draft6 primed).len refl 48 8 refl ∙ (bytes_kept (writes_slot ds (own 6)) draft6 _ (primed6 draft6 primed) 48 8 refl (omega arith) ∙ draft_second draft6)) (omega arith)
 
-    abbrev same_high : Bool
-    same_high = word_of s left / 2 ^ 16 == word_of s right / 2 ^ 16
+      operand6 : first_in (filled (slot 6)) ≡ low_48 (word_of s right)
+      unfolding spelled
+      operand6 = operand_filled _ (low right) (reads_filled 6 (primed6 draft6 primed).len refl 40 2 refl ∙ bytes_kept (writes_slot ds (own 6)) draft6 _ (primed6 draft6 primed) 40 2 refl (omega arith)) (reads_filled 6 (primed6 draft6 primed).len refl 42 6 refl) ∙ low_of (s (space.Cell right)) (whole.cells right).1
 
-    compares8 : (b : Bool) → same_low ≡ b → (word8 == first_in (filled (slot 6))) ≡ b
-    compares8 b h = rw (word8_is, operand6) h
+      abbrev word8 : ℕ
+      word8 = word (bytes_at (filled (slot 8)) 0 8) 0
 
-    abbrev old8 : Piece
-    old8 = piece (space.Scratch 0) 0 8 (spelled 8 word8)
+      abbrev word9 : ℕ
+      word9 = word (bytes_at (filled (slot 9)) 0 8) 0
 
-    abbrev old9 : Piece
-    old9 = piece (space.Scratch 0) 0 8 (spelled 8 word9)
+      word8_is : word8 ≡ low_48 (word_of s left)
+      word8_is = word_filled _ (low left) (clear8 draft6 primed) (reads_filled 8 (primed8 draft6 primed).len refl 2 6 refl) ∙ low_of (s (space.Cell left)) (whole.cells left).1
 
-    abbrev to_other : Piece
-    to_other = piece (slot 10) 40 16 (bytes_at (s (space.Descriptor other)) 0 16)
+      word9_is : word9 ≡ word_of s left / 2 ^ 16
+      word9_is = word_filled _ (high left) (clear9 draft6 primed) (reads_filled 9 (primed9 draft6 primed).len refl 2 6 refl) ∙ high_of (s (space.Cell left)) (whole.cells left).1
 
-    abbrev to_same : Piece
-    to_same = piece (slot 10) 40 16 (bytes_at (s (space.Descriptor same)) 0 16)
+      abbrev same_low : Bool
+      same_low = low_48 (word_of s left) == low_48 (word_of s right)
 
-    other_long : length to_other.bytes ≡ 16
-    other_long = length_at _ 0 16 16 (whole.descriptors other) (omega arith)
+      abbrev same_high : Bool
+      same_high = word_of s left / 2 ^ 16 == word_of s right / 2 ^ 16
 
-    same_long : length to_same.bytes ≡ 16
-    same_long = length_at _ 0 16 16 (whole.descriptors same) (omega arith)
+      compares8 : (b : Bool) → same_low ≡ b → (word8 == first_in (filled (slot 6))) ≡ b
+      compares8 b h = rw (word8_is, operand6) h
 
-    -- the low bits differ
-    abbrev low_differs : List Piece
-    low_differs = fills ++ old8 ∷ to_other ∷ []
+      abbrev old8 : Piece
+      old8 = piece (space.Scratch 0) 0 8 (spelled 8 word8)
 
-    runs_low_differs : same_low ≡ false → runs chain (own 0) ds s ≡ Went (puts_of low_differs) []
-    runs_low_differs h =
-        let after_choice : Bytes = placed s (puts_of low_differs) in
-        runs_fills _ (goes_on chain (own 6) draft6 filled (draft7 ∷ draft8 ∷ draft9 ∷ []) _ _ _ _ (steps_cas chain (own 6) draft6 filled false (compares8 false h) op6 refl refl) (goes_on chain (own 7) draft7 (placed s (puts_of (fills ++ old8 ∷ []))) (draft8 ∷ draft9 ∷ []) _ _ _ _ (steps_fill chain (own 7) draft7 (placed s (puts_of (fills ++ old8 ∷ []))) (opcode_kept (writes_slot ds (own 7)) draft7 _ primed6_on.1.0 tt refl) refl refl refl refl) (goes_on chain (own 8) draft8 after_choice (draft9 ∷ []) _ _ _ _ (steps_noop chain (own 8) draft8 after_choice (opcode_clear _ clear8)) (goes_on chain (own 9) draft9 after_choice [] _ _ _ _ (steps_noop chain (own 9) draft9 after_choice (opcode_clear _ clear9)) refl))))
+      abbrev old9 : Piece
+      old9 = piece (space.Scratch 0) 0 8 (spelled 8 word9)
 
-    -- the low bits are equal
-    abbrev turned8 : List Piece
-    turned8 = piece (slot 8) 0 8 (spelled 8 cas_word) ∷ old8 ∷ to_other ∷ []
+      abbrev to_other : Piece
+      to_other = piece (slot 10) 40 16 (bytes_at (s (space.Descriptor other)) 0 16)
 
-    abbrev low_equal : List Piece
-    low_equal = fills ++ turned8
+      abbrev to_same : Piece
+      to_same = piece (slot 10) 40 16 (bytes_at (s (space.Descriptor same)) 0 16)
 
-    abbrev after_turn : Bytes
-    after_turn = placed s (puts_of low_equal)
+      other_long : length to_other.bytes ≡ 16
+      other_long = length_at _ 0 16 16 (whole.descriptors other) (omega arith)
 
-    turned8_sized : AreSized turned8
-    turned8_sized = (length-spelled 8 cas_word, (length-spelled 8 word8, (other_long, tt)))
+      same_long : length to_same.bytes ≡ 16
+      same_long = length_at _ 0 16 16 (whole.descriptors same) (omega arith)
 
-    low_equal_sized : AreSized low_equal
-    low_equal_sized = (two, (low_long left, (low_long right, (two, (high_long left, (high_long right, turned8_sized))))))
+      -- the low bits differ
+      abbrev low_differs : List Piece
+      low_differs = fills ++ old8 ∷ to_other ∷ []
 
-    op8 : opcode_in (after_turn (slot 8)) ≡ Cas
-    op8 = opcode_to_cas _ (reads (slot 8) 64 0 8 turned8 filled turned8_sized refl (length_placed (slot 8) 64 fills s sized refl primed8.len) refl)
+      runs_low_differs : same_low ≡ false → runs chain (own 0) ds s ≡ Went (puts_of low_differs) []
+      runs_low_differs h =
+          let after_choice : Bytes = placed s (puts_of low_differs) in
+          runs_fills draft6 primed _ (goes_on chain (own 6) draft6 filled (draft7 ∷ draft8 ∷ draft9 ∷ []) _ _ _ _ (steps_cas chain (own 6) draft6 filled false (compares8 false h) op6 refl refl) (goes_on chain (own 7) draft7 (placed s (puts_of (fills ++ old8 ∷ []))) (draft8 ∷ draft9 ∷ []) _ _ _ _ (steps_fill chain (own 7) draft7 (placed s (puts_of (fills ++ old8 ∷ []))) (opcode_kept (writes_slot ds (own 7)) draft7 _ (primed6_on draft6 primed).1.0 tt refl) refl refl refl refl) (goes_on chain (own 8) draft8 after_choice (draft9 ∷ []) _ _ _ _ (steps_noop chain (own 8) draft8 after_choice (opcode_clear _ (clear8 draft6 primed))) (goes_on chain (own 9) draft9 after_choice [] _ _ _ _ (steps_noop chain (own 9) draft9 after_choice (opcode_clear _ (clear9 draft6 primed))) refl))))
 
-    new8 : second_in (after_turn (slot 8)) ≡ write_word
-    new8 = word_is 8 write_word 48 _ (reads (slot 8) 64 48 8 low_equal s low_equal_sized refl primed8.len refl ∙ (bytes_kept (writes_slot ds (own 8)) draft8 _ primed8 48 8 refl (omega arith) ∙ draft_second draft8)) (omega arith)
+      -- the low bits are equal
+      abbrev turned8 : List Piece
+      turned8 = piece (slot 8) 0 8 (spelled 8 cas_word) ∷ old8 ∷ to_other ∷ []
 
-    operand8 : first_in (after_turn (slot 8)) ≡ word_of s right / 2 ^ 16
-    unfolding spelled
-    operand8 = operand_filled _ (high right) (reads (slot 8) 64 40 2 low_equal s low_equal_sized refl primed8.len refl ∙ bytes_kept (writes_slot ds (own 8)) draft8 _ primed8 40 2 refl (omega arith)) (reads (slot 8) 64 42 6 low_equal s low_equal_sized refl primed8.len refl) ∙ high_of (s (space.Cell right)) (whole.cells right).1
+      abbrev low_equal : List Piece
+      low_equal = fills ++ turned8
 
-    compares9 : (b : Bool) → same_high ≡ b → (word9 == first_in (after_turn (slot 8))) ≡ b
-    compares9 b h = rw (word9_is, operand8) h
+      abbrev after_turn : Bytes
+      after_turn = placed s (puts_of low_equal)
 
-    runs_turned : (us : List Put) → same_low ≡ true → runs chain (own 8) (draft8 ∷ draft9 ∷ []) after_turn ≡ Went us [] → runs chain (own 0) ds s ≡ Went (puts_of low_equal ++ us) []
-    runs_turned us h r =
-        runs_fills _ (goes_on chain (own 6) draft6 filled (draft7 ∷ draft8 ∷ draft9 ∷ []) _ _ _ _ (steps_cas chain (own 6) draft6 filled true (compares8 true h) op6 refl refl ∙ ap (λ (w : ℕ). Went (put (slot 8) 0 (spelled 8 w) ∷ put_of old8 ∷ []) []) new6) (goes_on chain (own 7) draft7 (after 8 low_equal) (draft8 ∷ draft9 ∷ []) _ _ _ _ (steps_fill chain (own 7) draft7 (after 8 low_equal) (opcode_kept (writes_slot ds (own 7)) draft7 _ primed6_on.1.0 tt refl) refl refl refl refl) r))
+      turned8_sized : AreSized turned8
+      turned8_sized = (length-spelled 8 cas_word, (length-spelled 8 word8, (other_long, tt)))
 
-    abbrev high_differs : List Piece
-    high_differs = low_equal ++ old9 ∷ []
+      low_equal_sized : AreSized low_equal
+      low_equal_sized = (two, (low_long left, (low_long right, (two, (high_long left, (high_long right, turned8_sized))))))
 
-    high_differs_sized : AreSized high_differs
-    high_differs_sized = (two, (low_long left, (low_long right, (two, (high_long left, (high_long right, (length-spelled 8 cas_word, (length-spelled 8 word8, (other_long, (length-spelled 8 word9, tt))))))))))
+      op8 : opcode_in (after_turn (slot 8)) ≡ Cas
+      op8 = opcode_to_cas _ (reads (slot 8) 64 0 8 turned8 filled turned8_sized refl (length_placed (slot 8) 64 fills s sized refl (primed8 draft6 primed).len) refl)
 
-    runs_high_differs : same_low ≡ true → same_high ≡ false → runs chain (own 0) ds s ≡ Went (puts_of high_differs) []
-    runs_high_differs h k =
-        let after_compare : Bytes = placed s (puts_of high_differs) in
-        runs_turned _ h (goes_on chain (own 8) draft8 after_turn (draft9 ∷ []) _ _ _ _ (steps_cas chain (own 8) draft8 after_turn false (compares9 false k) op8 refl refl) (goes_on chain (own 9) draft9 after_compare [] _ _ _ _ (steps_noop chain (own 9) draft9 after_compare (opcode_clear _ clear9)) refl))
+      new8 : second_in (after_turn (slot 8)) ≡ write_word
+      new8 = word_is 8 write_word 48 _ (reads (slot 8) 64 48 8 low_equal s low_equal_sized refl (primed8 draft6 primed).len refl ∙ (bytes_kept (writes_slot ds (own 8)) draft8 _ (primed8 draft6 primed) 48 8 refl (omega arith) ∙ draft_second draft8)) (omega arith)
 
-    abbrev equal : List Piece
-    equal = low_equal ++ piece (slot 9) 0 8 (spelled 8 write_word) ∷ old9 ∷ to_same ∷ []
+      operand8 : first_in (after_turn (slot 8)) ≡ word_of s right / 2 ^ 16
+      unfolding spelled
+      operand8 = operand_filled _ (high right) (reads (slot 8) 64 40 2 low_equal s low_equal_sized refl (primed8 draft6 primed).len refl ∙ bytes_kept (writes_slot ds (own 8)) draft8 _ (primed8 draft6 primed) 40 2 refl (omega arith)) (reads (slot 8) 64 42 6 low_equal s low_equal_sized refl (primed8 draft6 primed).len refl) ∙ high_of (s (space.Cell right)) (whole.cells right).1
 
-    equal_sized : AreSized equal
-    equal_sized = (two, (low_long left, (low_long right, (two, (high_long left, (high_long right, (length-spelled 8 cas_word, (length-spelled 8 word8, (other_long, (length-spelled 8 write_word, (length-spelled 8 word9, (same_long, tt))))))))))))
+      compares9 : (b : Bool) → same_high ≡ b → (word9 == first_in (after_turn (slot 8))) ≡ b
+      compares9 b h = rw (word9_is, operand8) h
 
-    runs_equal : same_low ≡ true → same_high ≡ true → runs chain (own 0) ds s ≡ Went (puts_of equal) []
-    runs_equal h k =
-        let turned9 : List Piece = piece (slot 9) 0 8 (spelled 8 write_word) ∷ old9 ∷ [] in
-        let turned9_sized : AreSized turned9 = (length-spelled 8 write_word, (length-spelled 8 word9, tt)) in
-        let after_compare : Bytes = placed s (puts_of (low_equal ++ turned9)) in
-        let op9 : opcode_in (after_compare (slot 9)) ≡ Write = opcode_to_write _ (reads (slot 9) 64 0 8 turned9 after_turn turned9_sized refl (length_placed (slot 9) 64 low_equal s low_equal_sized refl primed9.len) refl) in
-        runs_turned _ h (goes_on chain (own 8) draft8 after_turn (draft9 ∷ []) _ _ _ _ (steps_cas chain (own 8) draft8 after_turn true (compares9 true k) op8 refl refl ∙ ap (λ (w : ℕ). Went (put (slot 9) 0 (spelled 8 w) ∷ put_of old9 ∷ []) []) new8) (goes_on chain (own 9) draft9 after_compare [] _ _ _ _ (steps_fill chain (own 9) draft9 after_compare op9 refl refl refl refl) refl))
+      runs_turned : (us : List Put) → same_low ≡ true → runs chain (own 8) (draft8 ∷ draft9 ∷ []) after_turn ≡ Went us [] → runs chain (own 0) ds s ≡ Went (puts_of low_equal ++ us) []
+      runs_turned us h r =
+          runs_fills draft6 primed _ (goes_on chain (own 6) draft6 filled (draft7 ∷ draft8 ∷ draft9 ∷ []) _ _ _ _ (steps_cas chain (own 6) draft6 filled true (compares8 true h) op6 refl refl ∙ ap (λ (w : ℕ). Went (put (slot 8) 0 (spelled 8 w) ∷ put_of old8 ∷ []) []) new6) (goes_on chain (own 7) draft7 (after 8 low_equal) (draft8 ∷ draft9 ∷ []) _ _ _ _ (steps_fill chain (own 7) draft7 (after 8 low_equal) (opcode_kept (writes_slot ds (own 7)) draft7 _ (primed6_on draft6 primed).1.0 tt refl) refl refl refl refl) r))
 
-    to_the_other : (p : Space) → placed s (put (slot 10) 40 to_other.bytes ∷ []) p ≡ chosen (own 10) other s p
-    to_the_other p = ap (λ (b : List ℕ). with_put s (put (slot 10) 40 b) p) (all_bytes _ 16 (whole.descriptors other))
+      abbrev high_differs : List Piece
+      high_differs = low_equal ++ old9 ∷ []
 
-    to_the_same : (p : Space) → placed s (put (slot 10) 40 to_other.bytes ∷ put (slot 10) 40 to_same.bytes ∷ []) p ≡ chosen (own 10) same s p
-    to_the_same p =
-        let last : length (s (slot 10)) ≡ 64 = last_long in
-        let sixteen : length to_other.bytes ≡ 16 = other_long in
-        placed_again s (own 10) 40 to_other.bytes to_same.bytes p (other_long ∙ sym same_long) (omega arith) ∙ ap (λ (b : List ℕ). with_put s (put (slot 10) 40 b) p) (all_bytes _ 16 (whole.descriptors same))
+      high_differs_sized : AreSized high_differs
+      high_differs_sized = (two, (low_long left, (low_long right, (two, (high_long left, (high_long right, (length-spelled 8 cas_word, (length-spelled 8 word8, (other_long, (length-spelled 8 word9, tt))))))))))
 
-    abbrev chooses : ℕ → Effect
-    chooses ring = Leaves (chosen (own 10) ring s) []
+      runs_high_differs : same_low ≡ true → same_high ≡ false → runs chain (own 0) ds s ≡ Went (puts_of high_differs) []
+      runs_high_differs h k =
+          let after_compare : Bytes = placed s (puts_of high_differs) in
+          runs_turned _ h (goes_on chain (own 8) draft8 after_turn (draft9 ∷ []) _ _ _ _ (steps_cas chain (own 8) draft8 after_turn false (compares9 false k) op8 refl refl) (goes_on chain (own 9) draft9 after_compare [] _ _ _ _ (steps_noop chain (own 9) draft9 after_compare (opcode_clear _ (clear9 draft6 primed))) refl))
 
-    abbrev Chooses : ℕ → Type 0
-    Chooses ring = Meets (own 0) ds s (runs chain (own 0) ds s) (chooses ring)
+      abbrev equal : List Piece
+      equal = low_equal ++ piece (slot 9) 0 8 (spelled 8 write_word) ∷ old9 ∷ to_same ∷ []
 
-    when_low_differs : same_low ≡ false → Chooses other
-    when_low_differs h =
-        meets_went chain (own 0) ds s low_differs [] _ (chosen (own 10) other s) (runs_low_differs h) (two, (low_long left, (low_long right, (two, (high_long left, (high_long right, (length-spelled 8 word8, (other_long, tt)))))))) refl refl room primed (λ p m. placed_outer (own 0) 10 (puts_of low_differs) s p m ∙ to_the_other p)
+      equal_sized : AreSized equal
+      equal_sized = (two, (low_long left, (low_long right, (two, (high_long left, (high_long right, (length-spelled 8 cas_word, (length-spelled 8 word8, (other_long, (length-spelled 8 write_word, (length-spelled 8 word9, (same_long, tt))))))))))))
 
-    when_high_differs : same_low ≡ true → same_high ≡ false → Chooses other
-    when_high_differs h k =
-        meets_went chain (own 0) ds s high_differs [] _ (chosen (own 10) other s) (runs_high_differs h k) high_differs_sized refl refl room primed (λ p m. placed_outer (own 0) 10 (puts_of high_differs) s p m ∙ to_the_other p)
+      runs_equal : same_low ≡ true → same_high ≡ true → runs chain (own 0) ds s ≡ Went (puts_of equal) []
+      runs_equal h k =
+          let turned9 : List Piece = piece (slot 9) 0 8 (spelled 8 write_word) ∷ old9 ∷ [] in
+          let turned9_sized : AreSized turned9 = (length-spelled 8 write_word, (length-spelled 8 word9, tt)) in
+          let after_compare : Bytes = placed s (puts_of (low_equal ++ turned9)) in
+          let op9 : opcode_in (after_compare (slot 9)) ≡ Write = opcode_to_write _ (reads (slot 9) 64 0 8 turned9 after_turn turned9_sized refl (length_placed (slot 9) 64 low_equal s low_equal_sized refl (primed9 draft6 primed).len) refl) in
+          runs_turned _ h (goes_on chain (own 8) draft8 after_turn (draft9 ∷ []) _ _ _ _ (steps_cas chain (own 8) draft8 after_turn true (compares9 true k) op8 refl refl ∙ ap (λ (w : ℕ). Went (put (slot 9) 0 (spelled 8 w) ∷ put_of old9 ∷ []) []) new8) (goes_on chain (own 9) draft9 after_compare [] _ _ _ _ (steps_fill chain (own 9) draft9 after_compare op9 refl refl refl refl) refl))
 
-    when_equal : same_low ≡ true → same_high ≡ true → Chooses same
-    when_equal h k =
-        meets_went chain (own 0) ds s equal [] _ (chosen (own 10) same s) (runs_equal h k) equal_sized refl refl room primed (λ p m. placed_outer (own 0) 10 (puts_of equal) s p m ∙ to_the_same p)
+      to_the_other : (p : Space) → placed s (put (slot 10) 40 to_other.bytes ∷ []) p ≡ chosen (own 10) other s p
+      to_the_other p = ap (λ (b : List ℕ). with_put s (put (slot 10) 40 b) p) (all_bytes _ 16 (whole.descriptors other))
 
-    -- both comparisons together compare all bits
-    by_word : (b : Bool) → (word_of s left == word_of s right) ≡ b → (low : Bool) → same_low ≡ low → (high : Bool) → same_high ≡ high → Chooses (if b then same else other)
-    by_word true e true h true k = when_equal h k
-    by_word true e false h high k = absurd (eqb-false _ _ h (ap low_48 (eqb-true (word_of s left) (word_of s right) e)))
-    by_word true e true h false k = absurd (eqb-false _ _ k (ap (λ (x : ℕ). x / 2 ^ 16) (eqb-true (word_of s left) (word_of s right) e)))
-    by_word false e false h high k = when_low_differs h
-    by_word false e true h false k = when_high_differs h k
-    by_word false e true h true k =
-        absurd (eqb-false (word_of s left) (word_of s right) e (same_word (word_of s left) (word_of s right) (eqb-true _ _ h) (eqb-true _ _ k)))
+      to_the_same : (p : Space) → placed s (put (slot 10) 40 to_other.bytes ∷ put (slot 10) 40 to_same.bytes ∷ []) p ≡ chosen (own 10) same s p
+      to_the_same p =
+          let last : length (s (slot 10)) ≡ 64 = last_long draft6 primed in
+          let sixteen : length to_other.bytes ≡ 16 = other_long in
+          placed_again s (own 10) 40 to_other.bytes to_same.bytes p (other_long ∙ sym same_long) (omega arith) ∙ ap (λ (b : List ℕ). with_put s (put (slot 10) 40 b) p) (all_bytes _ 16 (whole.descriptors same))
 
-    meets : Meets (own 0) ds s (runs chain (own 0) ds s) (tests_all left right same other (own 10) chain s)
-    meets = by_word (word_of s left == word_of s right) refl same_low refl same_high refl
+      abbrev chooses : ℕ → Effect
+      chooses ring = Leaves (chosen (own 10) ring s) []
+
+      abbrev Chooses : ℕ → Type 0
+      Chooses ring = Meets (own 0) ds s (runs chain (own 0) ds s) (chooses ring)
+
+      when_low_differs : same_low ≡ false → Chooses other
+      when_low_differs h =
+          meets_went chain (own 0) ds s low_differs [] _ (chosen (own 10) other s) (runs_low_differs h) (two, (low_long left, (low_long right, (two, (high_long left, (high_long right, (length-spelled 8 word8, (other_long, tt)))))))) refl refl room primed (λ p m. placed_outer (own 0) 10 (puts_of low_differs) s p m ∙ to_the_other p)
+
+      when_high_differs : same_low ≡ true → same_high ≡ false → Chooses other
+      when_high_differs h k =
+          meets_went chain (own 0) ds s high_differs [] _ (chosen (own 10) other s) (runs_high_differs h k) high_differs_sized refl refl room primed (λ p m. placed_outer (own 0) 10 (puts_of high_differs) s p m ∙ to_the_other p)
+
+      when_equal : same_low ≡ true → same_high ≡ true → Chooses same
+      when_equal h k =
+          meets_went chain (own 0) ds s equal [] _ (chosen (own 10) same s) (runs_equal h k) equal_sized refl refl room primed (λ p m. placed_outer (own 0) 10 (puts_of equal) s p m ∙ to_the_same p)
+
+      -- both comparisons together compare all bits
+      by_word : (b : Bool) → (word_of s left == word_of s right) ≡ b → (low : Bool) → same_low ≡ low → (high : Bool) → same_high ≡ high → Chooses (if b then same else other)
+      by_word true e true h true k = when_equal h k
+      by_word true e false h high k = absurd (eqb-false _ _ h (ap low_48 (eqb-true (word_of s left) (word_of s right) e)))
+      by_word true e true h false k = absurd (eqb-false _ _ k (ap (λ (x : ℕ). x / 2 ^ 16) (eqb-true (word_of s left) (word_of s right) e)))
+      by_word false e false h high k = when_low_differs h
+      by_word false e true h false k = when_high_differs h k
+      by_word false e true h true k =
+          absurd (eqb-false (word_of s left) (word_of s right) e (same_word (word_of s left) (word_of s right) (eqb-true _ _ h) (eqb-true _ _ k)))
+
+      meets : Meets (own 0) ds s (runs chain (own 0) ds s) (tests_all left right same other (own 10) chain s)
+      meets = by_word (word_of s left == word_of s right) refl same_low refl same_high refl
+
+    module _ (primed : Primed plain_ds (own 0) plain_ds s) where
+      stays6 : opcode_in (filled (slot 6)) ≡ Noop
+      stays6 = opcode_is Noop _ (reads_filled 6 (primed6 plain6 primed).len refl 0 2 refl ∙ (bytes_kept (writes_slot ds (own 6)) plain6 _ (primed6 plain6 primed) 0 2 refl (omega arith) ∙ draft_opcode plain6)) tt
+
+      abbrev chose : List Piece
+      chose = fills ++ piece (slot 10) 40 16 (bytes_at (s (space.Descriptor other)) 0 16) ∷ []
+
+      chose_sized : AreSized chose
+      chose_sized = (two, (low_long left, (low_long right, (two, (high_long left, (high_long right, (length_at _ 0 16 16 (whole.descriptors other) (omega arith), tt)))))))
+
+      runs_plainly : runs chain (own 0) plain_ds s ≡ Went (puts_of chose) []
+      runs_plainly =
+          let after_choice : Bytes = placed s (puts_of chose) in
+          runs_fills plain6 primed _ (goes_on chain (own 6) plain6 filled (draft7 ∷ draft8 ∷ draft9 ∷ []) _ _ _ _ (steps_noop chain (own 6) plain6 filled stays6) (goes_on chain (own 7) draft7 filled (draft8 ∷ draft9 ∷ []) _ _ _ _ (steps_fill chain (own 7) draft7 filled (opcode_kept (writes_slot ds (own 7)) draft7 _ (primed6_on plain6 primed).1.0 tt refl) refl refl refl refl) (goes_on chain (own 8) draft8 after_choice (draft9 ∷ []) _ _ _ _ (steps_noop chain (own 8) draft8 after_choice (opcode_clear _ (clear8 plain6 primed))) (goes_on chain (own 9) draft9 after_choice [] _ _ _ _ (steps_noop chain (own 9) draft9 after_choice (opcode_clear _ (clear9 plain6 primed))) refl))))
+
+      pub meets_plainly : Meets (own 0) plain_ds s (runs chain (own 0) plain_ds s) (jumps other (own 10) chain s)
+      meets_plainly =
+          meets_went chain (own 0) plain_ds s chose [] _ (chosen (own 10) other s) runs_plainly chose_sized refl refl room primed (λ p k. placed_outer (own 0) 10 (puts_of chose) s p k ∙ ap (λ (b : List ℕ). with_put s (put (slot 10) 40 b) p) (all_bytes _ 16 (whole.descriptors other)))
 
 test64_opcodes : (left right : Cell) (same other : ℕ) → tells (own 0) (test64 own left right same other) ≡ true
 unfolding number spelled opcode_named

@@ -24,7 +24,8 @@ test48 slot left right same other = low_fills slot left right ∷ low_swap slot 
 -- Test64: the fills of Test48 for T1 (slot 8) and its CAS (slot 6), and for T2 (slot 9) and T1's own operand with the top 48 bits
 abbrev pub wide_fills : (ℕ → SlotRef) → Cell → Cell → List Draft
 wide_fills slot left right =
-    clear (slot 8) ∷ fill_low (site.Cell left) (slot 8) ∷ compare_low (site.Cell right) (slot 6) ∷ clear (slot 9) ∷ fill_high (site.Cell left) (slot 9) ∷ compare_high (site.Cell right) (slot 8) ∷ []
+    clear (slot 8) ∷ fill_low (site.Cell left) (slot 8) ∷ compare_low (site.Cell right) (slot 6) ∷ clear (slot 9)
+    ∷ fill_high (site.Cell left) (slot 9) ∷ compare_high (site.Cell right) (slot 8) ∷ []
 
 -- the CAS turns T1 into a CAS where the low 48 bits are equal; the other ring is chosen
 abbrev pub wide_swap : (ℕ → SlotRef) → ℕ → List Draft
@@ -42,10 +43,12 @@ abbrev pub test64 : (ℕ → SlotRef) → Cell → Cell → ℕ → ℕ → List
 test64 slot left right same other =
     wide_fills slot left right ∷ wide_swap slot other ∷ second_swap slot ∷ wide_choice slot same ∷ [] ∷ []
 
--- a probe, segment by segment. Six fills: the opcodes of T1 (slot 13) and T2 (slot 14), the operands of both CAS (slots 11 and 12), the offsets of the look (slot 6) and of T1
+-- a probe, segment by segment. Six fills: the opcodes of T1 (slot 13) and T2 (slot 14), the operands of both CAS (slots 11 and 12), the offsets of
+-- the look (slot 6) and of T1
 abbrev pub probe_fills : (ℕ → SlotRef) → Cell → Cell → List Draft
 probe_fills slot offset key =
-    clear (slot 13) ∷ clear (slot 14) ∷ compare_low (site.Cell key) (slot 11) ∷ compare_low (site.Cell key) (slot 12) ∷ copy (site.Cell offset) 0 (field (slot 6) 24 8) 8 ∷ copy (site.Cell offset) 0 (field (slot 13) 24 8) 8 ∷ []
+    clear (slot 13) ∷ clear (slot 14) ∷ compare_low (site.Cell key) (slot 11) ∷ compare_low (site.Cell key) (slot 12)
+    ∷ copy (site.Cell offset) 0 (field (slot 6) 24 8) 8 ∷ copy (site.Cell offset) 0 (field (slot 13) 24 8) 8 ∷ []
 
 -- the look reads the key word; the ring for no match is chosen
 abbrev pub probe_look : (ℕ → SlotRef) → ℕ → ℕ → List Draft

@@ -25,7 +25,8 @@ abbrev pub looks : ℕ → Cell → ℕ → SlotRef → SlotRef → View → Byt
 looks t offset miss look_at last chain s =
     let o : ℕ = word_of s offset in
     let table : List ℕ = chain.tables look_at t in
-    if lies_in table o then Leaves (chosen last miss s) (shows.Look chain.number t o (word (bytes_at table o 8) 0) ∷ []) else Stops s (shows.Fault chain.number t o ∷ [])
+    if lies_in table o then Leaves (chosen last miss s) (shows.Look chain.number t o (word (bytes_at table o 8) 0)
+    ∷ []) else Stops s (shows.Fault chain.number t o ∷ [])
 
 abbrev pub from : ℕ → ℕ → SlotRef
 from ring first = record { ring = ring; slot = first }

@@ -1,4 +1,7 @@
-//! Templates of tests, which choose the next ring by CAS.
+//! Templates of tests, which choose the next ring by compare-and-swap: of two words, of their low 48
+//! bits, or of a key in a table, whose value is then loaded.
+//! The law: it is compare-and-swap that chooses. With a NOOP in place of each, a test goes on at the
+//! same ring from every state.
 #![tactic(auto)]
 
 mod laws;

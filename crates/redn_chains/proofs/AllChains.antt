@@ -12,7 +12,8 @@ use Rattle.redn_words.specs.States.{Queue, Pending, Delivered, Chain, State}
 use Rattle.redn_words.specs.Steps.{possible, after, shown, acts_on}
 use Rattle.redn_words.specs.Runs.{shown_then}
 use Rattle.redn_words.specs.Landings.{change}
-use Rattle.redn_words.proofs.Bytes.{byte, hits, over, byte-changed, length-changed}
+use Rattle.redn_words.proofs.Bytes.{byte-changed, length-changed}
+use Rattle.redn_words.specs.Bytes.{byte, hits, over}
 use Rattle.redn_words.specs.Laws.{Delivers, row_of}
 use Rattle.redn_words.proofs.Deliveries.{delivers, delivered_is, length-delivered, byte-delivered}
 use Rattle.redn_words.proofs.Domains.{length_stays}

@@ -1,20 +1,9 @@
 -- Runs of one machine among all.
-use Rattle.std.proofs.Common.{◌≡◌, ◌≢◌, ℕ, zero, suc, ◌+◌, ◌<◌, Bool, true, false, ◌==◌, List, replicate, refl, sym, ap, subst, ◌∙◌, arith}
+use Rattle.std.proofs.Common.{◌≡◌, ◌≢◌, ℕ, zero, suc, ◌+◌, ◌<◌, Bool, true, false, ◌==◌, replicate, refl, sym, ap, subst, ◌∙◌, arith}
 use Rattle.std.proofs.lemmas.Bool.{eq-eqb, eqb-true, false_from_ne_true}
-use Rattle.redn_words.specs.declared.types.Obs.{Obs}
 use Rattle.redn_words.specs.Runs.{shown_then}
 use Rattle.redn_image.proofs.Simulation.{AllRun, told, earned}
-use Rattle.redn_chains.specs.Machines.{Contents, MachineTurn, Machine, run_tables, run_state, run_events, run_cost, AllGo, Goes, Many, with_state, many_running, turn_of, many_step, many_tells, many_credit, many_after}
-
-module _ (M : Type 0) (k : Machine M) where
-  -- a step, and then some more
-  pub goes_first : (t : Contents) (x : M) (turn : MachineTurn M) (events : List Obs) (u : Contents) (y : M) (need have : ℕ) → k.ended x ≡ false → k.step t x ≡ turn → Goes M k turn.tables turn.state events u y need (have + k.cost turn.state) → Goes M k t x (shown_then turn.event events) u y need have
-  goes_first t x turn events u y need have more is rest =
-      subst (λ (w : MachineTurn M). Goes M k t x (shown_then w.event events) u y need have) is (with_rest (subst (λ (w : MachineTurn M). Goes M k w.tables w.state events u y need (have + k.cost w.state)) (sym is) rest))
-    where
-      with_rest : Goes M k (k.step t x).tables (k.step t x).state events u y need (have + k.cost (k.step t x).state) → Goes M k t x (shown_then (k.step t x).event events) u y need have
-      with_rest r =
-          record { steps = suc r.steps; go = (more, r.go); telling = ap (shown_then (k.step t x).event) r.telling; tables = r.tables; state = r.state; enough = let enough = r.enough in omega (arith, enough) }
+use Rattle.redn_chains.specs.Machines.{Machine, run_tables, run_state, run_events, run_cost, AllGo, Many, with_state, many_running, turn_of, many_step, many_tells, many_credit, many_after}
 
 module _ (M : Type 0) (machine : ℕ → Machine M) (awake : ℕ → Bool) where
   -- n turns of one chain are n steps of its machine

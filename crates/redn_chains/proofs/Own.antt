@@ -14,8 +14,9 @@ use Rattle.redn_words.specs.States.{Queue, Chain, State}
 use Rattle.redn_words.specs.Steps.{class_of, possible, after, shown, with_queue_at, past_head, stopped, may_raise, counter_of, chain_counter, enabled_in, acts_on}
 use Rattle.redn_words.specs.Runs.{shown_then}
 use Rattle.redn_words.specs.Landings.{Change}
-use Rattle.redn_words.proofs.Bytes.{byte}
-use Rattle.redn_words.proofs.Others.{acting_there, row_may_raise, may_raise_row, set_other, set_here}
+use Rattle.redn_words.specs.Bytes.{byte}
+use Rattle.redn_words.proofs.Others.{acting_there, may_raise_row, set_other, set_here}
+use Rattle.redn_words.specs.Others.{row_may_raise}
 use Rattle.redn_words.specs.Laws.{row_of}
 use Rattle.redn_words.proofs.Domains.{length_stays}
 use Rattle.redn_window.specs.Stages.{Progress, landed_in}
@@ -174,9 +175,6 @@ module _ (g : World) where
 
         ready : f.script.Ready f.first s.memory
         ready = k.prepared mailed.0 s.memory mailed.1 r.sound (subst (λ (b : Bool). SameMine g c s.memory (expected g c b)) came h.memory)
-
-        opening : Opening
-        opening = f.script.window f.first s.memory
 
         enable_is : gate_of f.entry h.passed ≡ gate_of f.entry 1
         enable_is = ap (gate_of f.entry) second

@@ -64,16 +64,7 @@ steps_append c (x ∷ xs) ys =
     let other = sum_by-cons (λ (e : ℕ). if e == c then 1 else 0) x xs in
     omega (arith, rest, one, other)
 
-steps_elsewhere : (c d n : ℕ) → d ≢ c → steps_of d (replicate n c) ≡ 0
-steps_elsewhere c d zero ne = refl
-steps_elsewhere c d (suc n) ne =
-    let apart : (c == d) ≡ false = false_from_ne_true (c == d) (λ t. ne (sym (eqb-true c d t))) in
-    let rest = steps_elsewhere c d n ne in
-    let one = sum_by-cons (λ (e : ℕ). if e == d then 1 else 0) c (replicate n c) in
-    let first : ◌≡◌ {A = ℕ} (if c == d then 1 else 0) 0 = rw apart refl in
-    omega (arith, rest, one, first)
-
-source_cost : (c n : ℕ) (t : Contents) (w : ChainState) → run_cost ChainState (source_machine c) n t w ≡ 160 * n
+pub source_cost : (c n : ℕ) (t : Contents) (w : ChainState) → run_cost ChainState (source_machine c) n t w ≡ 160 * n
 unfolding source_machine
 source_cost c zero t w = refl
 source_cost c (suc n) t w = let rest = source_cost c n (first_does c t w w.items).tables (first_does c t w w.items).chain in omega (arith, rest)

@@ -9,7 +9,8 @@ use Rattle.redn_words.specs.declared.types.Action.TheVariants.{Deliver}
 use Rattle.redn_words.specs.States.{Queue, Chain, State}
 use Rattle.redn_words.specs.Steps.{after, acts_on}
 use Rattle.redn_words.specs.Landings.{change}
-use Rattle.redn_words.proofs.Bytes.{byte, hits, same_range}
+use Rattle.redn_words.proofs.Bytes.{same_range}
+use Rattle.redn_words.specs.Bytes.{byte, hits}
 use Rattle.redn_words.specs.Ranges.{domain_holds}
 use Rattle.redn_words.proofs.Domains.{byte_outside, length_stays, domains_stay}
 use Rattle.redn_words.specs.Laws.{Delivers, row_of, row_at}

@@ -15,10 +15,12 @@ use Rattle.redn_words.specs.Access.{access, EndsBy}
 use Rattle.redn_words.specs.Landings.{lands, done, Place, Change, change, reply_words}
 use Rattle.redn_words.specs.Ranges.{within, all_apart, all_inside}
 use Rattle.redn_words.proofs.Ranges.{within_apart, within_inside, one_within, bounds_hold}
-use Rattle.redn_words.proofs.Bytes.{byte, same_range}
-use Rattle.redn_words.proofs.Others.{row_may_raise}
+use Rattle.redn_words.proofs.Bytes.{same_range}
+use Rattle.redn_words.specs.Bytes.{byte}
+use Rattle.redn_words.specs.Others.{row_may_raise}
 use Rattle.redn_window.proofs.Ends.{byte_kept}
-use Rattle.redn_words.proofs.Slots.{IsNarrow, decoded-encoded}
+use Rattle.redn_words.proofs.Slots.{decoded-encoded}
+use Rattle.redn_words.specs.Slots.{IsNarrow}
 use Rattle.redn_window.specs.Windows.{Opening, landing_on, request_of, slot_at, copy_of, wait_of, enable_of}
 use Rattle.redn_window.specs.Stages.{Orderly, Gated, Agrees, Standing}
 use Rattle.redn_window.proofs.Placed.{Placed, placed_is_orderly, writes_of}

@@ -13,13 +13,15 @@ use Rattle.redn_words.specs.Requests.{encoded, opcode_named}
 use Rattle.redn_words.specs.Landings.{Change, change, changed, reply_words, Landing}
 use Rattle.redn_words.specs.Runs.{shown_then}
 use Rattle.redn_words.specs.States.{Queue, State, fresh_queue, fresh_chain, mail_of, slot_of}
-use Rattle.redn_words.proofs.Bytes.{byte, hits, same_range}
+use Rattle.redn_words.proofs.Bytes.{same_range}
+use Rattle.redn_words.specs.Bytes.{byte, hits}
 use Rattle.redn_words.proofs.Places.{bytes_at-same}
 use Rattle.redn_words.proofs.Numbers.{length-spelled}
 use Rattle.redn_words.specs.Ranges.{within, holds, domain_holds}
 use Rattle.redn_words.specs.Access.{EndsBy}
 use Rattle.redn_words.specs.Laws.{row_at}
-use Rattle.redn_words.proofs.Slots.{IsNarrow, decoded-encoded}
+use Rattle.redn_words.proofs.Slots.{decoded-encoded}
+use Rattle.redn_words.specs.Slots.{IsNarrow}
 use Rattle.redn_words.proofs.Copies.{get_empty}
 use Rattle.redn_window.specs.Windows.{landing_on, bodies_of, slots_of}
 use Rattle.redn_window.specs.Stages.{Agrees, Gated}

@@ -25,5 +25,7 @@ pub record IsCompiled (p : Program) (i : Image) (messages : Messages) (sourced :
   pub begins : Begins sourced.world machines
   pub same : Same sourced machines (source_start p messages)
   pub translates : (c : ℕ) → c < chains_of sourced.world → Translates sourced c
-  pub tables : (t : Contents) (m : List ℕ) (n : ℕ) → sourced.world.Tables t m → All (λ (r : Region). bytes_at m r.base r.len ≡ bytes_of t n) (places_of n sourced.world.begin.regions)
-  pub variables : (c : ℕ) (y : sourced.world.M) (m : List ℕ) → c < chains_of sourced.world → (sourced.world.form c).Holds y m → All (HoldsVariables m (sourced.here c y).vars) (variables_of c sourced.world.begin.regions)
+  pub tables : (t : Contents) (m : List ℕ) (n : ℕ) → sourced.world.Tables t m
+      → All (λ (r : Region). bytes_at m r.base r.len ≡ bytes_of t n) (places_of n sourced.world.begin.regions)
+  pub variables : (c : ℕ) (y : sourced.world.M) (m : List ℕ) → c < chains_of sourced.world → (sourced.world.form c).Holds y m
+      → All (HoldsVariables m (sourced.here c y).vars) (variables_of c sourced.world.begin.regions)

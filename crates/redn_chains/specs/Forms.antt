@@ -13,7 +13,7 @@ use Rattle.redn_words.specs.Steps.{class_of}
 use Rattle.redn_words.specs.Landings.{Landing, Change, change, changed}
 use Rattle.redn_words.specs.Ranges.{domain_holds}
 use Rattle.redn_words.specs.Laws.{row_at}
-use Rattle.redn_words.proofs.Bytes.{byte, hits}
+use Rattle.redn_words.specs.Bytes.{byte, hits}
 use Rattle.redn_window.specs.Windows.{Opening, bodies_of, slots_of, landing_on}
 use Rattle.redn_window.specs.Stages.{Agrees, Standing}
 use Rattle.redn_window.specs.Gateways.{Gateway, OrderlyGates, GateQueue, gate_copy, gate_of}
@@ -110,7 +110,8 @@ module _ (g : World) where
       pub counter : (gate_of f.entry 0).first ≡ RECEIVE_BASE + c
       pub one : (gate_of f.entry 0).second ≡ 1
       pub enables : class_of (gate_of f.entry 1) ≡ ask.Raises
-      pub slots_mine : (k p : ℕ) → k < 2 → f.entry.row.base + 64 * (k % f.entry.row.slots) ≤ p → p < f.entry.row.base + 64 * (k % f.entry.row.slots) + 64 → f.mine p ≡ true
+      pub slots_mine : (k p : ℕ) → k < 2 → f.entry.row.base + 64 * (k % f.entry.row.slots) ≤ p
+          → p < f.entry.row.base + 64 * (k % f.entry.row.slots) + 64 → f.mine p ≡ true
       pub slots : (came : Bool) (k : ℕ) → k < 2 → slot_of (expected came) f.entry.row k ≡ gate_copy f.entry k
 
     -- the place of its message
@@ -177,13 +178,19 @@ module _ (g : World) where
       pub rings_begin : (q : ℕ) → f.script.ring q ≡ true → RestsAt f.script g.begin f.first q
       pub chain_begins : (chain : Chain) × (slice_get g.begin.chains c ≡ Some chain) × (chain.received ≡ 0)
       -- what it does is what its machine does
-      pub begins : (m : List ℕ) (t : Contents) → f.script.Ready f.first m → MachineGoes t f.begin [] t (f.state f.first None) (whole (window f.first m) + f.owed f.first None) (f.machine.cost f.begin)
+      pub begins : (m : List ℕ) (t : Contents) → f.script.Ready f.first m
+          → MachineGoes t f.begin [] t (f.state f.first None) (whole (window f.first m) + f.owed f.first None) (f.machine.cost f.begin)
       pub tells : (x : Point) (m n : List ℕ) (t : Contents) → Finds x m n t → (event_on x m n).allowed ≡ true → Tells x m n t
       pub fails : (x : Point) (m n : List ℕ) (t : Contents) → Finds x m n t → (event_on x m n).allowed ≡ false → Fails x m n t
-      pub moves_on : (x : Point) (m : List ℕ) (event : List Change) (n : List ℕ) (told : Option (List Change)) (t : Contents) → (over : IsOver f.script x m event n) → IsTold (window x m) (λ k. true) event told → KeepsUp x (script.behind x m event n over).0 n told t
-      pub ends : (x : Point) (m : List ℕ) → f.script.Ready x m → length (window x m).gates ≡ 0 → ((window x m).event < bodies_of (window x m)) × ((event : List Change) → Wrote (window x m) event → f.machine.ended (f.state x (Some event)) ≡ true)
+      pub moves_on : (x : Point) (m : List ℕ) (event : List Change) (n : List ℕ) (told : Option (List Change)) (t : Contents)
+          → (over : IsOver f.script x m event n) → IsTold (window x m) (λ k. true) event told → KeepsUp x (script.behind x m event n over).0 n told t
+      pub ends : (x : Point) (m : List ℕ) → f.script.Ready x m → length (window x m).gates ≡ 0
+          → ((window x m).event < bodies_of (window x m))
+          × ((event : List Change) → Wrote (window x m) event → f.machine.ended (f.state x (Some event)) ≡ true)
       -- its variables
-      pub holds : (x : Point) (m n : List ℕ) (marks : ℕ → Bool) (event : List Change) (told : Option (List Change)) → f.script.Ready x m → (marks (window x m).event ≡ true → (window x m).event < bodies_of (window x m) → Wrote (window x m) event) → IsTold (window x m) marks event told → Standing (window x m) n marks event → f.Holds (f.state x told) n
+      pub holds : (x : Point) (m n : List ℕ) (marks : ℕ → Bool) (event : List Change) (told : Option (List Change)) → f.script.Ready x m
+          → (marks (window x m).event ≡ true → (window x m).event < bodies_of (window x m) → Wrote (window x m) event)
+          → IsTold (window x m) marks event told → Standing (window x m) n marks event → f.Holds (f.state x told) n
       pub holds_failed : (x : Point) (n : List ℕ) → f.Holds (f.state x None) n → f.Holds (f.failed x) n
       pub holds_begin : (came : Bool) → f.Holds f.begin (expected came)
       pub holds_same : (y : g.M) (m n : List ℕ) → SameMine m n → f.Holds y n → f.Holds y m
@@ -191,7 +198,8 @@ module _ (g : World) where
   -- what all forms promise together
   pub record AllPromise : Type 0 where
     pub each : (c : ℕ) → c < chains_of → Promises c
-    pub rows : (q : ℕ) (row : QueueRow) → row_at g.begin.queues q ≡ Some row → (row.domain < chains_of) × ((q ≡ (g.form row.domain).entry.queue) ⊎ ((g.form row.domain).script.ring q ≡ true))
+    pub rows : (q : ℕ) (row : QueueRow) → row_at g.begin.queues q ≡ Some row
+        → (row.domain < chains_of) × ((q ≡ (g.form row.domain).entry.queue) ⊎ ((g.form row.domain).script.ring q ≡ true))
     pub heads : (q : ℕ) (u : Queue) → slice_get g.begin.queues q ≡ Some u → u.head ≡ 0
     pub ends : EndsBy (length g.begin.memory) g.begin.regions
     pub sound : IsBytes g.begin.memory

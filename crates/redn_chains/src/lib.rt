@@ -1,5 +1,6 @@
-//! All chains of an image, side by side: from what the compiled form of each promises to what the
-//! program says, in every order of an adapter's actions.
+//! All chains of an image, side by side.
+//! The law: in every order of an adapter's actions, what is shown and left is what the machines of the
+//! chains do, one turn after the other. So an image in compiled form does what its program says.
 #![tactic(auto)]
 
 mod laws;

@@ -52,11 +52,12 @@ use Rattle.redn_courses.specs.Laying.{Laying, plan, segments, rings_of, block_at
 use Rattle.redn_courses.specs.Beginnings.{blank_cell, blank, named_in, Begins}
 use Rattle.redn_courses.specs.Laws.{CoursesBegin}
 use Rattle.redn_courses.proofs.Taking.{laid}
-use Rattle.redn_courses.proofs.Drafts.{slice_get_front, draft_at}
+use Rattle.redn_courses.proofs.Drafts.{draft_at}
 use Rattle.redn_courses.proofs.Spared.{is_plain, block_plain, sends_flat}
 use Rattle.redn_courses.proofs.Stages.{are_rings}
 use Rattle.redn_courses.proofs.Entering.{raised_long, entered}
 use Rattle.redn_courses.proofs.Requests.{ready_primed, primed_each}
+use Rattle.redn_rings.proofs.Promised.{front as slice_get_front}
 
 -- a draft among all is one of its segment
 at_segment : (segs : List (List Draft)) (j k : ℕ) (d : Draft) → k < length (segment_at segs j) → slice_get (drafts_of segs) (start_of segs j + k) ≡ Some d → slice_get (segment_at segs j) k ≡ Some d
@@ -115,15 +116,11 @@ module _ (l : Laying) (is : IsLaying l) where
 
     blank_cell_long : (a : Cell) → length (blank_cell a) ≡ 8
     blank_cell_long (cell.Num n) = length-spelled 8 n
-    blank_cell_long (cell.Var i) = length-spelled 8 0
-    blank_cell_long (cell.Hidden i) = length-spelled 8 0
-    blank_cell_long (cell.Argument i) = length-spelled 8 0
+    blank_cell_long _ = length-spelled 8 0
 
     blank_cell_bytes : (a : Cell) → IsBytes (blank_cell a)
     blank_cell_bytes (cell.Num n) = spelled_bytes 8 n
-    blank_cell_bytes (cell.Var i) = spelled_bytes 8 0
-    blank_cell_bytes (cell.Hidden i) = spelled_bytes 8 0
-    blank_cell_bytes (cell.Argument i) = spelled_bytes 8 0
+    blank_cell_bytes _ = spelled_bytes 8 0
 
     cell_bytes : (a : Cell) → IsBytes (s (space.Cell a))
     cell_bytes a = by_mine (mine (space.Cell a)) refl
@@ -211,12 +208,7 @@ module _ (l : Laying) (is : IsLaying l) where
 
           table_begins : (p : Space) → is_table_space p ≡ true → IsHome home c.regions c.domain c.size p → (home p).offset ≡ 0
           table_begins (space.Table t) e k = k.told
-          table_begins (space.Cell a) e k = absurd (false≢true e)
-          table_begins space.Reply e k = absurd (false≢true e)
-          table_begins space.Key e k = absurd (false≢true e)
-          table_begins (space.Scratch i) e k = absurd (false≢true e)
-          table_begins (space.Descriptor i) e k = absurd (false≢true e)
-          table_begins (space.Slot q) e k = absurd (false≢true e)
+          table_begins _ e k = absurd (false≢true e)
 
           remote_old : (d : Draft) → remote_of (renamed f d) ≡ remote_of d
           remote_old d = (λ i. cond (table_renamed f d.remote i) (start_renamed f d.remote i + d.remote_byte) 0)
@@ -269,11 +261,7 @@ module _ (l : Laying) (is : IsLaying l) where
         by_other (inl same) = absurd (true≢false (sym (eq-eqb k v (sym same)) ∙ e))
         by_other (inr ne) = ne_eqb v k ne
     agrees (space.Slot q) e = refl
-    agrees (space.Cell a) e = refl
-    agrees space.Reply e = refl
-    agrees space.Key e = refl
-    agrees (space.Table k) e = refl
-    agrees (space.Scratch i) e = refl
+    agrees _ e = refl
 
     raised : t (space.Descriptor v) ≡ raised_by (slots_in_laps (segments l v)) (s (space.Descriptor v))
     raised = let itself : (v == v) ≡ true = eq-eqb v v refl in ap (λ (x : Bool). cond x (raised_by (slots_in_laps (segments l v)) (s (space.Descriptor v))) (s (space.Descriptor v))) itself

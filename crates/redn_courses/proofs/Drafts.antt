@@ -5,15 +5,8 @@ use Rattle.redn_segment.specs.declared.types.Draft.{Draft}
 use Rattle.redn_segment.specs.Building.{drafts_of}
 use Rattle.redn_recycle.specs.Lapped.{segment_at, start_of}
 use Rattle.redn_laps.proofs.LapNext.{slice_get_behind}
-
-pub slice_get_front : {X : Type 0} (a b : List X) (k : ℕ) (x : X) → slice_get a k ≡ Some x → slice_get (a ++ b) k ≡ Some x
-slice_get_front [] b k x e = absurd (cc)
-slice_get_front (y ∷ a) b zero x e = e
-slice_get_front (y ∷ a) b (suc k) x e = slice_get_front a b k x e
-
-pub start_behind : (s : List Draft) (rest : List (List Draft)) (j : ℕ) → start_of (s ∷ rest) (suc j) ≡ length s + start_of rest j
-start_behind s rest zero = omega arith
-start_behind s rest (suc j) = let h : start_of (s ∷ rest) (suc j) ≡ length s + start_of rest j = start_behind s rest j in omega (arith, h)
+use Rattle.redn_rings.proofs.Promised.{front as slice_get_front}
+use Rattle.redn_recycle.proofs.Starts.{start_behind}
 
 pub draft_at : (segments : List (List Draft)) (j k : ℕ) (d : Draft) → slice_get (segment_at segments j) k ≡ Some d → slice_get (drafts_of segments) (start_of segments j + k) ≡ Some d
 draft_at [] j k d e = absurd (cc)

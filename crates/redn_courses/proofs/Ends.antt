@@ -37,11 +37,8 @@ pub record LastIs (e : End) (segs : List (List Draft)) : Type 0 where
   pub sent : IsReply e ≡ true → sends (last_of segs) ≡ true
 
 end_last : (first : ℕ) (e : End) (at : SlotRef) → LastIs e (part_segments at (end_part first e))
-end_last first (Jump to) at = record { some = omega arith; empty = λ h. refl; sent = λ h. absurd (true≢false (sym h)) }
-end_last first (Test48 left right met unmet) at = record { some = omega arith; empty = λ h. refl; sent = λ h. absurd (true≢false (sym h)) }
-end_last first (Test64 left right met unmet) at = record { some = omega arith; empty = λ h. refl; sent = λ h. absurd (true≢false (sym h)) }
-end_last first (Probe to t offset key hit miss) at = record { some = omega arith; empty = λ h. refl; sent = λ h. absurd (true≢false (sym h)) }
 end_last first (Reply words) at = record { some = omega arith; empty = λ h. absurd (true≢false h); sent = λ h. refl }
+end_last first _ at = record { some = omega arith; empty = λ h. refl; sent = λ h. absurd (true≢false (sym h)) }
 
 pub block_last : (first : ℕ) (is : List Instr) (e : End) (at : SlotRef) → LastIs e (segments_of first at is e)
 block_last first [] e at = subst (LastIs e) (sym (append-nil (part_segments at (end_part first e)))) (end_last first e at)
@@ -58,11 +55,8 @@ block_last first (i ∷ is) e at =
 
 -- an end that is no reply goes on
 pub goes_of : (r : Round) (e : End) → IsReply e ≡ false → (b : Bytes) (z : GraphState) (t : Bytes) → EndsAs r e b z t → GoesOn r b z t
-goes_of r (Jump to) h b z t k = k
-goes_of r (Test48 left right met unmet) h b z t k = k
-goes_of r (Test64 left right met unmet) h b z t k = k
-goes_of r (Probe to x offset key hit miss) h b z t k = k
 goes_of r (Reply words) h b z t k = absurd (true≢false h)
+goes_of r _ h b z t k = k
 
 -- what is left of a list from one place on
 pub dropped : {X : Type 0} (xs : List X) (j : ℕ) (d x : X) (rest : List X) → drop j xs ≡ x ∷ rest → (get_or xs j d ≡ x) × (drop (suc j) xs ≡ rest)

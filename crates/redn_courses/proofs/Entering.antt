@@ -308,8 +308,7 @@ module _ (l : Laying) (is : IsLaying l) where
 
     onward : (n j : ℕ) (y : Ghost) (t s : Bytes) (h : Stage l is v its b (suc n) j y t s) (u : Bytes) (bytes : HasBytes u) → ((z : Ghost) (x w : Bytes) → Stage l is v its b n (suc j) z x w → SoundAt n (suc j) z w) → (o : Outcome) → Next l is v its b n j y t s h u bytes o → rings.Comes (λ events w. (z : Ghost) × Tells l v j u y events z × SoundAt n (suc j) z w) (Fails l v j u y) (tabled s u) o
     onward n j y t s h u bytes rest (Went us events) k = (k.0, k.1, rest k.0 k.2 (placed (tabled s u) us) k.3)
-    onward n j y t s h u bytes rest (Faults us events) k = k
-    onward n j y t s h u bytes rest Bad k = k
+    onward n j y t s h u bytes rest _ k = k
 
     pub sound : (n j : ℕ) (y : Ghost) (t s : Bytes) → Stage l is v its b n j y t s → SoundAt n j y s
     sound zero j y t s h = tt

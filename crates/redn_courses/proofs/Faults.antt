@@ -26,22 +26,11 @@ use Rattle.redn_rounds.proofs.Views.{AllTrue, runs_true}
 offset_itself : (k : Kind) (a : ℕ) → same_offset k a a
 offset_itself Vars a = refl
 offset_itself (Table t) a = refl
-offset_itself Code a = tt
-offset_itself Control a = tt
-offset_itself Message a = tt
+offset_itself _ a = tt
 
 event_no_fault : (us vs : List Put) (l : List Obs) (o : Obs) → Tells o o → with_event us o ≡ Faults vs l → ⊥
-event_no_fault us vs l shows.Nothing h e = absurd (cc)
-event_no_fault us vs l (shows.Set c v w) h e = absurd (cc)
-event_no_fault us vs l (shows.Load c v t o w) h e = absurd (cc)
-event_no_fault us vs l (shows.Look c t o w) h e = absurd (cc)
-event_no_fault us vs l (shows.Store c t o w) h e = absurd (cc)
-event_no_fault us vs l (shows.Reply c n ws) h e = absurd (cc)
 event_no_fault us vs l (shows.Fault c t o) h e = h
-event_no_fault us vs l (shows.Stale q i) h e = absurd (cc)
-event_no_fault us vs l (shows.Undefined q i) h e = absurd (cc)
-event_no_fault us vs l (shows.Refused q i) h e = absurd (cc)
-event_no_fault us vs l (shows.Odd q i) h e = absurd (cc)
+event_no_fault us vs l _ h e = absurd (cc)
 
 faults_if : (b : Bool) (o : Outcome) (us : List Put) (l : List Obs) → cond (not b) Bad o ≡ Faults us l → o ≡ Faults us l
 faults_if true o us l e = e
@@ -68,16 +57,10 @@ module _ (number : ℕ) (u : Bytes) where
         by_length true e false flat h =
             absurd (true≢false (sym (ap (λ (b : Bool). cond b (nat_le (remote_at slot d + d.length) (length (seeing see s (remote_space d)))) true) flat) ∙ out))
         by_length false e c table h = absurd (cc)
-    past_true (space.Cell c) is out us l h = absurd (cc)
-    past_true space.Reply is out us l h = absurd (cc)
-    past_true space.Key is out us l h = absurd (cc)
-    past_true (space.Scratch i) is out us l h = absurd (cc)
-    past_true (space.Descriptor i) is out us l h = absurd (cc)
-    past_true (space.Slot q) is out us l h = absurd (cc)
+    past_true _ is out us l h = absurd (cc)
 
     acts_true : (op : Opcode) (us : List Put) (l : List Obs) → acts number (seeing see s) slot d op ≡ Faults us l → AllTrue number u l
     unfolding acts
-    acts_true Noop us l e = absurd (cc)
     acts_true Write us l e =
         elim (faults_reach (reaches (seeing see s) slot d d.length) _ _ us l (faults_if (fits d d.length) _ us l e)) [
           | inl past ↦ past_true (remote_space d) refl past.0 us l past.1
@@ -93,9 +76,7 @@ module _ (number : ℕ) (u : Bytes) where
         absurd (event_no_fault _ us l _ (add_tells (origin number) (origin number) refl (request_of slot d) (request_of slot d) refl _ (kind_of (local_space d)) (kind_of (remote_space d)) (offset_itself (kind_of (remote_space d)) _)) (faults_if (fits d 8 && is_atomic d) _ us l e))
     acts_true Send us l e =
         absurd (event_no_fault _ us l _ (send_tells (origin number) (origin number) refl (request_of slot d) (request_of slot d) refl (local_bytes (seeing see s) d d.length) (kind_of (local_space d))) (faults_if (is_length d.length && (not (is_table d.local) && inside d.local d.local_byte d.length)) _ us l e))
-    acts_true Wait us l e = absurd (cc)
-    acts_true Enable us l e = absurd (cc)
-    acts_true (Undefined n) us l e = absurd (cc)
+    acts_true _ us l e = absurd (cc)
 
   all_both : (l m : List Obs) → AllTrue number u l → AllTrue number u m → AllTrue number u (l ++ m)
   all_both [] m h k = k

@@ -101,9 +101,7 @@ module _ (home : Space → Home) where
     acts_fit Send e =
         let a = went_if (is_length d.length && (not (is_table d.local) && inside d.local d.local_byte d.length)) _ us events e in
         only [] _ tt a.1
-    acts_fit Wait e = absurd (cc)
-    acts_fit Enable e = absurd (cc)
-    acts_fit (Undefined n) e = absurd (cc)
+    acts_fit _ e = absurd (cc)
 
   -- a run
   all_both : (us vs : List Put) → AllFit us → AllFit vs → AllFit (us ++ vs)
@@ -112,8 +110,7 @@ module _ (home : Space → Home) where
 
   after_went : (us : List Put) (before : List Obs) (o : Outcome) (vs : List Put) (events : List Obs) → AllFit us → ((ws : List Put) (shown : List Obs) → o ≡ Went ws shown → AllFit ws) → after us before o ≡ Went vs events → AllFit vs
   after_went us before (Went ws shown) vs events h k e = let same : us ++ ws ≡ vs = cc in subst (λ (l : List Put). AllFit l) same (all_both us ws h (k ws shown refl))
-  after_went us before (Faults ws shown) vs events h k e = absurd (cc)
-  after_went us before Bad vs events h k e = absurd (cc)
+  after_went us before _ vs events h k e = absurd (cc)
 
   pub run_fits : (v : View) (ds : List Draft) (at : SlotRef) (s : Bytes) (us : List Put) (events : List Obs) → runs v at ds s ≡ Went us events → AllFit us
   run_fits v [] at s us events goes = let none : [] ≡ us = cc in subst (λ (l : List Put). AllFit l) none tt

@@ -3,12 +3,12 @@ use Rattle.std.proofs.Common.{◌≡◌, ◌⊎◌, inl, inr, ℕ, zero, suc, �
 use Rattle.std.specs.Prelude.{nat_lt, get_or}
 use Rattle.std.proofs.Math.ListN.{get_or-append}
 use Rattle.std.proofs.Math.Seq.{get_or-append_right}
-use Rattle.std.proofs.lemmas.Bool.{eq-eqb, ne_eqb, cases_lt}
+use Rattle.std.proofs.lemmas.Bool.{eq-eqb, ne_eqb, cases_lt, le-ltb as lt_false}
 use Rattle.redn_segment.specs.declared.types.SlotRef.{SlotRef}
 use Rattle.redn_segment.specs.declared.types.Draft.{Draft}
 use Rattle.redn_segment.specs.Effects.{slot_behind}
 use Rattle.redn_block.specs.Blocks.{Part, part_segments, part_size, all_segments}
-use Rattle.redn_laps.proofs.LapWindows.{lt_false, lt_true}
+use Rattle.redn_laps.proofs.LapWindows.{lt_true}
 use Rattle.redn_rounds.specs.Parts.{Mark, is_last, marks_of, all_marks}
 use Rattle.redn_rounds.specs.Shares.{parts_from, place_in, begins_in, left_in, closes_in}
 

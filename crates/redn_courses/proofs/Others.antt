@@ -32,12 +32,7 @@ own_place ring n e = ap not (eq-eqb n ring e)
 -- a site of the ring, by its old and its new name
 site_own : (segments : List (List Draft)) (ring : ℕ) (x : Site) → names_well segments ring x ≡ true → elsewhere ring (space_of x) ≡ false
 site_own segments ring (site.Field x) e = ap not (and_parts (x.slot.ring == ring) _ e).0
-site_own segments ring (site.Cell c) e = refl
-site_own segments ring (site.ReplyWord i) e = refl
-site_own segments ring site.Key e = refl
-site_own segments ring (site.Scratch i) e = refl
-site_own segments ring (site.Descriptor i) e = refl
-site_own segments ring (site.Table t o) e = refl
+site_own segments ring _ e = refl
 
 ring_kept : (segments : List (List Draft)) (ring : ℕ) (q : SlotRef) → (ref_in_laps segments ring q).ring ≡ q.ring
 ring_kept segments ring q = by_own (q.ring == ring)
@@ -48,12 +43,7 @@ ring_kept segments ring q = by_own (q.ring == ring)
 
 site_named : (segments : List (List Draft)) (ring : ℕ) (x : Site) → names_well segments ring x ≡ true → elsewhere ring (space_of (renamed_site (ref_in_laps segments ring) x)) ≡ false
 site_named segments ring (site.Field x) e = ap (λ (n : ℕ). not (n == ring)) (ring_kept segments ring x.slot) ∙ ap not (and_parts (x.slot.ring == ring) _ e).0
-site_named segments ring (site.Cell c) e = refl
-site_named segments ring (site.ReplyWord i) e = refl
-site_named segments ring site.Key e = refl
-site_named segments ring (site.Scratch i) e = refl
-site_named segments ring (site.Descriptor i) e = refl
-site_named segments ring (site.Table t o) e = refl
+site_named segments ring _ e = refl
 
 pub spares_by : (aside : Space → Bool) (d : Draft) → aside (space_of d.local) ≡ false → aside (space_of d.remote) ≡ false → spares_all aside d ≡ true
 spares_by aside d a b = and_from (not (aside (space_of d.local))) (not (aside (space_of d.remote))) (ap not a) (ap not b)

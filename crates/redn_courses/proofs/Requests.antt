@@ -19,6 +19,7 @@ use Rattle.redn_segment.specs.Primed.{IsPrimed, Primed, writes_slot, says, cover
 use Rattle.redn_segment.specs.Homes.{Home}
 use Rattle.redn_segment.proofs.Composing.{behind_next, behind_none}
 use Rattle.redn_homes.specs.Requested.{requested, remote_offset, IsReady}
+use Rattle.redn_laps.proofs.RingWrites.{covered as range_at}
 
 -- bytes of two lists at one place
 at_place : (a : List ℕ) (o n i : ℕ) → o ≤ i → i < o + n → slice_index a i ≡ slice_index (bytes_at a o n) (i - o)
@@ -48,14 +49,7 @@ module _ (home : Space → Home) (d : Draft) (flags : ℕ) where
 
   offset_is : (op : Opcode) → is_send op ≡ false → remote_offset home d op ≡ (home (remote_space d)).offset + (start_of d.remote + d.remote_byte)
   offset_is Send e = absurd (false≢true (sym e))
-  offset_is Noop e = refl
-  offset_is Write e = refl
-  offset_is Read e = refl
-  offset_is Cas e = refl
-  offset_is Add e = refl
-  offset_is Wait e = refl
-  offset_is Enable e = refl
-  offset_is (Undefined n) e = refl
+  offset_is _ e = refl
 
   module _ (flat : is_table d.remote ≡ true → is_send d.op ≡ false) (begins : is_table d.remote ≡ true → (home (remote_space d)).offset ≡ 0) where
     remote_same : is_table d.remote ≡ true → remote_offset home d d.op ≡ remote_of d
@@ -63,9 +57,6 @@ module _ (home : Space → Home) (d : Draft) (flags : ℕ) where
         let at = begins t in
         let here : remote_of d ≡ start_of d.remote + d.remote_byte = ap (λ (b : Bool). cond b (start_of d.remote + d.remote_byte) 0) t in
         omega (arith, offset_is d.op (flat t), at, here)
-
-    range_at : (o n i : ℕ) → covers o n i ≡ true → (o ≤ i) × (i < o + n)
-    range_at o n i h = let parts = and_parts (nat_le o i) (nat_lt i (o + n)) h in (leb-true o i parts.0, ltb-true i (o + n) parts.1)
 
     said : (i : ℕ) → says d i ≡ true → slice_index (encoded (requested home d flags)) i ≡ slice_index (draft_bytes d) i
     said i h =

@@ -19,10 +19,9 @@ use Rattle.redn_courses.specs.Laying.{Laying, plan, number_at, block_at, round_a
 
 module _ (n : Things) where
   target : (a : Cell) → fits.IsTarget n a → IsTarget a
-  target (cell.Var x) h = tt
-  target (cell.Hidden k) h = tt
   target (cell.Argument i) h = absurd h
   target (cell.Num v) h = absurd h
+  target _ h = tt
 
   instr_target : (i : Instr) → FitsInstr n i → HasTarget i
   instr_target (Set to v) h = target to h
@@ -33,10 +32,9 @@ module _ (n : Things) where
 
   end_fits : (most first : ℕ) → first + n.blocks ≤ most → (e : End) → FitsEnd n e → EndFits most first e
   end_fits most first room (Jump to) h = omega (arith, h)
-  end_fits most first room (Test48 left right met unmet) h = let a = h.2 in let b = h.3 in (omega (arith, a), omega (arith, b))
-  end_fits most first room (Test64 left right met unmet) h = let a = h.2 in let b = h.3 in (omega (arith, a), omega (arith, b))
   end_fits most first room (Probe to t offset key hit miss) h = let a = h.4 in let b = h.5 in (target to h.0, omega (arith, a), omega (arith, b))
   end_fits most first room (Reply words) h = (h.1, h.2)
+  end_fits most first room _ h = let a = h.2 in let b = h.3 in (omega (arith, a), omega (arith, b))
 
 module _ (l : Laying) (is : IsLaying l) where
   -- no ring has a number from this one on

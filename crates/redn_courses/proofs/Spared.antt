@@ -46,24 +46,17 @@ is_plain d = spares_all is_lapping d && (is_body d.op && (not (is_send d.op) || 
 
 instr_plain : (i : Instr) (at : SlotRef) → list_all is_plain (drafts_of (part_segments at (instr_part i))) ≡ true
 instr_plain (instr.Set to v) at = refl
-instr_plain (instr.Move to from) at = refl
 instr_plain (instr.Add to (cell.Num n)) at = refl
-instr_plain (instr.Add to (cell.Var i)) at = refl
-instr_plain (instr.Add to (cell.Hidden i)) at = refl
-instr_plain (instr.Add to (cell.Argument i)) at = refl
-instr_plain (instr.Load to t offset) at = refl
-instr_plain (instr.Store t offset from) at = refl
+instr_plain (instr.Add to _) at = refl
+instr_plain _ at = refl
 
 reply_plain : (ws : List Cell) (i n : ℕ) → list_all is_plain (copies_from i ws ++ send_words n ∷ []) ≡ true
 reply_plain [] i n = refl
 reply_plain (w ∷ ws) i n = reply_plain ws (i + 1) n
 
 end_plain : (first : ℕ) (e : End) (at : SlotRef) → list_all is_plain (drafts_of (part_segments at (end_part first e))) ≡ true
-end_plain first (Jump to) at = refl
-end_plain first (Test48 left right met unmet) at = refl
-end_plain first (Test64 left right met unmet) at = refl
-end_plain first (Probe to t offset key hit miss) at = refl
 end_plain first (Reply words) at = reply_plain words 0 (length words)
+end_plain first _ at = refl
 
 pub block_plain : (first : ℕ) (is : List Instr) (e : End) (at : SlotRef) → list_all is_plain (drafts_of (segments_of first at is e)) ≡ true
 block_plain first [] e at = ap (λ (l : List (List Draft)). list_all is_plain (drafts_of l)) (append-nil (part_segments at (end_part first e))) ∙ end_plain first e at
@@ -82,15 +75,10 @@ neither true b e f = e
 
 module _ (v : ℕ) (d : Draft) (plain : is_plain d ≡ true) (own : both_sides (leaves_descriptor v) d ≡ true) (far : leaves_descriptors d ≡ true) where
   local_side : (op : Opcode) → is_body op ≡ true → holds_of (leaves_descriptor v) (local_by d op) ≡ true → same_space (local_space d) (space.Descriptor v) ≡ false
-  local_side Noop b h = not_true (same_space (local_space d) (space.Descriptor v)) h
-  local_side Write b h = not_true (same_space (local_space d) (space.Descriptor v)) h
-  local_side Read b h = not_true (same_space (local_space d) (space.Descriptor v)) h
-  local_side Cas b h = not_true (same_space (local_space d) (space.Descriptor v)) h
-  local_side Add b h = not_true (same_space (local_space d) (space.Descriptor v)) h
-  local_side Send b h = not_true (same_space (local_space d) (space.Descriptor v)) h
   local_side Wait b h = absurd (false≢true b)
   local_side Enable b h = absurd (false≢true b)
   local_side (Undefined n) b h = absurd (false≢true b)
+  local_side _ b h = not_true (same_space (local_space d) (space.Descriptor v)) h
 
   spared_first : spares_all (set_aside v 0) d ≡ true
   spared_first =

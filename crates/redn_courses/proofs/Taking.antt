@@ -42,68 +42,37 @@ use Rattle.redn_courses.specs.Laying.{Laying, plan, segments, block_at, IsLaying
 use Rattle.redn_courses.proofs.Rounds.{most, rounds}
 use Rattle.redn_courses.proofs.Suits.{all_stored, block_suits, suit_at}
 use Rattle.redn_courses.proofs.Turning.{makes_no_send, block_makes, sends_alike, table_read}
-use Rattle.redn_courses.proofs.Drafts.{slice_get_front, draft_at, mapped_at}
+use Rattle.redn_courses.proofs.Drafts.{draft_at, mapped_at}
+use Rattle.redn_rings.proofs.Promised.{front as slice_get_front}
 
 -- new names of slots change no kind, and nothing of what is shown
 kind_renamed : (f : SlotRef → SlotRef) (p : Space) → kind_of (renamed_space f p) ≡ kind_of p
 kind_renamed f (space.Slot q) = refl
-kind_renamed f (space.Cell c) = refl
-kind_renamed f space.Reply = refl
-kind_renamed f space.Key = refl
-kind_renamed f (space.Scratch i) = refl
-kind_renamed f (space.Descriptor i) = refl
-kind_renamed f (space.Table t) = refl
+kind_renamed f _ = refl
 
 descriptor_renamed : (f : SlotRef → SlotRef) (p : Space) → is_descriptor (renamed_space f p) ≡ is_descriptor p
 descriptor_renamed f (space.Slot q) = refl
-descriptor_renamed f (space.Cell c) = refl
-descriptor_renamed f space.Reply = refl
-descriptor_renamed f space.Key = refl
-descriptor_renamed f (space.Scratch i) = refl
-descriptor_renamed f (space.Descriptor i) = refl
-descriptor_renamed f (space.Table t) = refl
+descriptor_renamed f _ = refl
 
-shown_renamed : (f : SlotRef → SlotRef) (x : Site) → is_shown (renamed_site f x) ≡ is_shown x
+pub shown_renamed : (f : SlotRef → SlotRef) (x : Site) → is_shown (renamed_site f x) ≡ is_shown x
 shown_renamed f (site.Field x) = refl
-shown_renamed f (site.Cell x) = refl
-shown_renamed f (site.ReplyWord i) = refl
-shown_renamed f site.Key = refl
-shown_renamed f (site.Scratch i) = refl
-shown_renamed f (site.Descriptor i) = refl
-shown_renamed f (site.Table t o) = refl
+shown_renamed f _ = refl
 
-variable_renamed : (f : SlotRef → SlotRef) (x : Site) → is_variable (renamed_site f x) ≡ is_variable x
+pub variable_renamed : (f : SlotRef → SlotRef) (x : Site) → is_variable (renamed_site f x) ≡ is_variable x
 variable_renamed f (site.Field x) = refl
-variable_renamed f (site.Cell x) = refl
-variable_renamed f (site.ReplyWord i) = refl
-variable_renamed f site.Key = refl
-variable_renamed f (site.Scratch i) = refl
-variable_renamed f (site.Descriptor i) = refl
-variable_renamed f (site.Table t o) = refl
+variable_renamed f _ = refl
 
 -- an opcode that writes locally needs a right for it
 local_quiet : (op : Opcode) → local_need op ≡ Any → acts_locally op ≡ false
-local_quiet Noop e = refl
-local_quiet Write e = refl
 local_quiet Read e = absurd (cc)
 local_quiet Cas e = absurd (cc)
 local_quiet Add e = absurd (cc)
-local_quiet Send e = refl
-local_quiet Wait e = refl
-local_quiet Enable e = refl
-local_quiet (Undefined n) e = refl
+local_quiet _ e = refl
 
 -- one that has a remote side isn't a SEND, nor is its draft
 remote_no_send : (op : Opcode) → has_remote op ≡ true → is_send op ≡ false
-remote_no_send Write e = refl
-remote_no_send Read e = refl
-remote_no_send Cas e = refl
-remote_no_send Add e = refl
-remote_no_send Noop e = refl
 remote_no_send Send e = absurd (false≢true e)
-remote_no_send Wait e = refl
-remote_no_send Enable e = refl
-remote_no_send (Undefined n) e = refl
+remote_no_send _ e = refl
 
 module _ (l : Laying) (is : IsLaying l) where
   abbrev c : Plan

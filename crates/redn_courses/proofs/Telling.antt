@@ -11,12 +11,12 @@ use Rattle.redn_segment.specs.Plain.{Bytes, View, Put, placed, Went, opcode_in, 
 use Rattle.redn_segment.specs.Primed.{SeesBytes}
 use Rattle.redn_segment.specs.Effects.{slot_behind}
 use Rattle.redn_segment.specs.Opcodes.{MayHave, SegmentMayHave, HaveOpcodes}
-use Rattle.redn_segment.proofs.Composing.{Owns, lies_from, lies_to, behind_next, behind_none}
+use Rattle.redn_segment.proofs.Composing.{Owns, lies_from, lies_to, behind_next, behind_none, apart as behind_other}
 use Rattle.redn_homes.specs.Segments.{is_table_space}
 use Rattle.redn_laps.specs.Turns.{HasBytes, tabled}
 use Rattle.redn_rings.specs.Runs.{own_view}
 use Rattle.redn_lapped.proofs.Alike.{alike_placed}
-use Rattle.redn_rounds.proofs.Views.{runs_alike, split, split_here, split_there, split_bytes, behind_other}
+use Rattle.redn_rounds.proofs.Views.{runs_alike, split, split_here, split_there, split_bytes}
 use Rattle.redn_rounds.proofs.Stages.{Beside, beside_tabled, runs_beside}
 
 module _ (all : List Draft) where

@@ -35,13 +35,9 @@ makes_no_send e = not (is_swap e.op) || not (is_send (word_opcode e.second))
 
 instr_makes : (i : Instr) (at : SlotRef) → list_all makes_no_send (drafts_of (part_segments at (instr_part i))) ≡ true
 instr_makes (instr.Set to v) at = refl
-instr_makes (instr.Move to from) at = refl
 instr_makes (instr.Add to (cell.Num n)) at = refl
-instr_makes (instr.Add to (cell.Var i)) at = refl
-instr_makes (instr.Add to (cell.Hidden i)) at = refl
-instr_makes (instr.Add to (cell.Argument i)) at = refl
-instr_makes (instr.Load to t offset) at = refl
-instr_makes (instr.Store t offset from) at = refl
+instr_makes (instr.Add to _) at = refl
+instr_makes _ at = refl
 
 reply_makes : (ws : List Cell) (i n : ℕ) → list_all makes_no_send (copies_from i ws ++ send_words n ∷ []) ≡ true
 reply_makes [] i n = refl
@@ -49,11 +45,8 @@ reply_makes (w ∷ ws) i n = reply_makes ws (i + 1) n
 
 end_makes : (first : ℕ) (e : End) (at : SlotRef) → list_all makes_no_send (drafts_of (part_segments at (end_part first e))) ≡ true
 unfolding opcode_named number spelled
-end_makes first (Jump to) at = refl
-end_makes first (Test48 left right met unmet) at = refl
-end_makes first (Test64 left right met unmet) at = refl
-end_makes first (Probe to t offset key hit miss) at = refl
 end_makes first (Reply words) at = reply_makes words 0 (length words)
+end_makes first _ at = refl
 
 pub block_makes : (first : ℕ) (is : List Instr) (e : End) (at : SlotRef) → list_all makes_no_send (drafts_of (segments_of first at is e)) ≡ true
 block_makes first [] e at = ap (λ (l : List (List Draft)). list_all makes_no_send (drafts_of l)) (append-nil (part_segments at (end_part first e))) ∙ end_makes first e at
@@ -83,11 +76,5 @@ sends_alike all q d op h (inr made) (inr turned) = made_no_send all q op h made 
 pub table_read : (x : Site) → is_table_kind (kind_of (space_of x)) ≡ true → is_table x ≡ true
 table_read (site.Table t o) h = refl
 table_read (site.Cell (cell.Var i)) h = absurd (false≢true h)
-table_read (site.Cell (cell.Hidden i)) h = absurd (false≢true h)
-table_read (site.Cell (cell.Argument i)) h = absurd (false≢true h)
-table_read (site.Cell (cell.Num n)) h = absurd (false≢true h)
-table_read (site.ReplyWord i) h = absurd (false≢true h)
-table_read site.Key h = absurd (false≢true h)
-table_read (site.Scratch i) h = absurd (false≢true h)
-table_read (site.Descriptor i) h = absurd (false≢true h)
-table_read (site.Field f) h = absurd (false≢true h)
+table_read (site.Cell _) h = absurd (false≢true h)
+table_read _ h = absurd (false≢true h)

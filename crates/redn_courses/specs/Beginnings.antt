@@ -47,5 +47,6 @@ module _ (l : Laying) where
     pub drafts : (r j k : ℕ) (d : Draft) → is_ring (plan l) r ≡ true → j < ((plan l).ring r).segments → IsBody (plan l) r j k d → IsReady ((plan l).written r (body_slot (plan l) r j k)) (body_request (plan l) r j k d) (seen_in l.layout.home m (slot_space r (body_slot (plan l) r j k)))
     pub is_at : IsAt (number_at l v) 0 y
     pub many : length y.cells.vars ≡ l.things.vars
-    pub cells : (a : Cell) → IsCell l.things a → is_number a ≡ false → (l.layout.mine (space.Cell a) ≡ true) × (word_of (seen_in l.layout.home m) a ≡ held l.course.words y.cells a)
+    pub cells : (a : Cell) → IsCell l.things a → is_number a ≡ false
+        → (l.layout.mine (space.Cell a) ≡ true) × (word_of (seen_in l.layout.home m) a ≡ held l.course.words y.cells a)
     pub numbers : (n : ℕ) → l.layout.mine (space.Cell (cell.Num n)) ≡ true → seen_in l.layout.home m (space.Cell (cell.Num n)) ≡ spelled 8 n

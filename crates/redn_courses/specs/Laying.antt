@@ -70,7 +70,8 @@ module _ (l : Laying) where
   abbrev pub round_at : ℕ → Round
   round_at r = record { course = l.course; things = l.things; first = l.layout.first_queue; number = number_at r; block = block_at r; ring = r }
 
-  -- each block is a ring of the layout, fits, and stores only into tables that may be written; and the regions of the chain's spaces grant what drafts may need there
+  -- each block is a ring of the layout, fits, and stores only into tables that may be written; and the regions of the chain's spaces grant what
+  -- drafts may need there
   pub record IsLaying : Type 0 where
     pub laid : IsLayout l.layout
     pub number : l.course.number ≡ l.layout.domain
@@ -80,7 +81,8 @@ module _ (l : Laying) where
     pub small : All BlockWords l.course.graph.blocks
     pub segments_are : (r : ℕ) → is_ring plan r ≡ true → segments r ≡ block_segments l.layout.first_queue r (block_at r)
     pub writes : (t : ℕ) → is_writable (slice_get l.things.tables t) ≡ true → list_any (λ (u : ℕ). u == t) l.written ≡ true
-    pub rights : (p : Space) (need : Need) → l.layout.mine p ≡ true → allows l.written (kind_of p) need ≡ true → grants (l.layout.home p).region.rights need ≡ true
+    pub rights : (p : Space) (need : Need) → l.layout.mine p ≡ true → allows l.written (kind_of p) need ≡ true
+        → grants (l.layout.home p).region.rights need ≡ true
 
   -- an opcode that a slot of a ring may have: one that its draft may have, or a lap request's own
   pub record Takes (r j k : ℕ) (op : Opcode) : Type 0 where
@@ -104,7 +106,8 @@ module _ (l : Laying) where
   abbrev pub AreTrue : Bytes → List Obs → Type 0
   AreTrue u events = All (IsTrueBy (λ (t : ℕ). u (space.Table t))) events
 
-  -- the run of a segment over some tables makes the graph's steps that show the same, or ends by the fault that they end by. What it shows is true of those tables; and at the first segment of an instruction or end the graph is there, and not ahead
+  -- the run of a segment over some tables makes the graph's steps that show the same, or ends by the fault that they end by. What it shows is true of
+  -- those tables; and at the first segment of an instruction or end the graph is there, and not ahead
   pub record Tells (r j : ℕ) (u : Bytes) (y : Ghost) (events : List Obs) (z : Ghost) : Type 0 where
     pub starts : Starts (round_at r) (opens_at r j) (place_at r j) y
     pub steps : stages.Tells l.course (closes_at r j) y events z

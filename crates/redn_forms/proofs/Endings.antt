@@ -6,7 +6,7 @@ use Rattle.std.proofs.lemmas.Bool.{false≢true, and_parts, eqb-true}
 use Rattle.redn_words.specs.declared.types.Obs.{Obs}
 use Rattle.redn_words.specs.declared.types.Obs.TheVariants as shows
 use Rattle.redn_words.specs.declared.types.Opcode.{Opcode}
-use Rattle.redn_words.specs.declared.types.Opcode.TheVariants.{Noop, Write, Read, Cas, Add, Send, Wait, Enable, Undefined}
+use Rattle.redn_words.specs.declared.types.Opcode.TheVariants.{Send}
 use Rattle.redn_words.specs.Landings.{Change}
 use Rattle.redn_graph.specs.Run.{GraphState, GraphTurn}
 use Rattle.redn_segment.specs.declared.types.Space.TheVariants as space
@@ -41,14 +41,7 @@ use Rattle.redn_forms.proofs.Events.{promises, turned_event, event_shape, stood}
 
 sent : (o : Opcode) → is_send o ≡ true → o ≡ Send
 sent Send e = refl
-sent Noop e = absurd (false≢true e)
-sent Write e = absurd (false≢true e)
-sent Read e = absurd (false≢true e)
-sent Cas e = absurd (false≢true e)
-sent Add e = absurd (false≢true e)
-sent Wait e = absurd (false≢true e)
-sent Enable e = absurd (false≢true e)
-sent (Undefined n) e = absurd (false≢true e)
+sent _ e = absurd (false≢true e)
 
 gates_none : (b : Bool) → ◌≡◌ {A = ℕ} (cond b 0 2) 0 → b ≡ true
 gates_none true e = refl

@@ -3,10 +3,7 @@ use Rattle.std.proofs.Common.{◌≡◌, ℕ, zero, suc, ◌+◌, ◌<◌, ◌�
 use Rattle.std.specs.Prelude.{slice_get, Some, None, Option, option_map, All}
 use Rattle.std.proofs.lemmas.Option.{slice_get-map}
 use Rattle.std.proofs.lemmas.List.{length-map}
-use Rattle.redn_kernel.specs.declared.types.Cell.{Cell}
 use Rattle.redn_segment.specs.declared.types.SlotRef.{SlotRef}
-use Rattle.redn_segment.specs.declared.types.Site.{Site}
-use Rattle.redn_segment.specs.declared.types.Site.TheVariants as site
 use Rattle.redn_segment.specs.Renaming.{renamed, renamed_site}
 use Rattle.redn_recycle.specs.Lapped.{event_in, segment_at, ref_in_laps}
 use Rattle.std.specs.List.{list_any, position_or_len}
@@ -44,6 +41,8 @@ use Rattle.redn_forms.specs.Formed.{Formed, IsFormed, TellsWell, Starts, Point, 
 use Rattle.redn_forms.proofs.Shapes.{Shape, Idle, Words, Sends, shape, reads_of}
 use Rattle.redn_forms.proofs.States.{steps_show}
 use Rattle.redn_forms.proofs.Goings.{Stood, As_before, Behind_it, event_step}
+use Rattle.redn_courses.proofs.Taking.{shown_renamed as shown_same, variable_renamed as variable_same}
+use Rattle.redn_segment.proofs.Meeting.{or_true}
 
 -- a draft that may show an event may do so by each opcode that it can have
 shows_by : (d : Draft) (op : Opcode) → may_show d ≡ true → Follows d op → may_show_by d op ≡ true
@@ -61,37 +60,10 @@ shows_by d op h (inr turned) = by_op op (ap (may_show_by d) (sym turned.0) ∙ h
     by_op Enable e = e
     by_op (Undefined n) e = e
 
-shown_same : (g : SlotRef → SlotRef) (x : Site) → is_shown (renamed_site g x) ≡ is_shown x
-shown_same g (site.Cell a) = is_cell a
-  where
-    is_cell : (a : Cell) → is_shown (site.Cell a) ≡ is_shown (site.Cell a)
-    is_cell a = refl
-shown_same g (site.ReplyWord i) = refl
-shown_same g site.Key = refl
-shown_same g (site.Scratch i) = refl
-shown_same g (site.Descriptor i) = refl
-shown_same g (site.Field y) = refl
-shown_same g (site.Table t o) = refl
-
-variable_same : (g : SlotRef → SlotRef) (x : Site) → is_variable (renamed_site g x) ≡ is_variable x
-variable_same g (site.Cell a) = refl
-variable_same g (site.ReplyWord i) = refl
-variable_same g site.Key = refl
-variable_same g (site.Scratch i) = refl
-variable_same g (site.Descriptor i) = refl
-variable_same g (site.Field y) = refl
-variable_same g (site.Table t o) = refl
-
 renamed_shows : (g : SlotRef → SlotRef) (d : Draft) (op : Opcode) → may_show_by (renamed g d) op ≡ may_show_by d op
 renamed_shows g d Send = refl
 renamed_shows g d Read = let far = shown_same g d.remote in let near = variable_same g d.local in ap (λ (b : Bool). b || is_variable (renamed_site g d.local)) far ∙ ap (λ (b : Bool). is_shown d.remote || b) near
-renamed_shows g d Noop = shown_same g d.remote
-renamed_shows g d Write = shown_same g d.remote
-renamed_shows g d Cas = shown_same g d.remote
-renamed_shows g d Add = shown_same g d.remote
-renamed_shows g d Wait = shown_same g d.remote
-renamed_shows g d Enable = shown_same g d.remote
-renamed_shows g d (Undefined n) = shown_same g d.remote
+renamed_shows g d _ = shown_same g d.remote
 
 -- the draft that stands at the first place where one may show an event
 at_position : (ds : List Draft) (d : Draft) → slice_get ds (position_or_len may_show ds) ≡ Some d → may_show d ≡ true
@@ -123,10 +95,6 @@ event_may g ds d e = by_some (list_any may_show ds) refl
 or_false : (b : Bool) → b || false ≡ b
 or_false true = refl
 or_false false = refl
-
-or_true : (b : Bool) → b || true ≡ true
-or_true true = refl
-or_true false = refl
 
 module _ (f : Formed) (h : IsFormed f) where
   abbrev c : Plan

@@ -1,7 +1,7 @@
 -- How a graph's machine goes on, by what segments tell of it.
 use Rattle.std.proofs.Common.{◌≡◌, ◌≢◌, ℕ, ◌+◌, ◌≤◌, Bool, true, false, cond, List, [], ◌∷◌, refl, sym, ap, ◌∙◌, subst, arith}
 use Rattle.std.specs.Prelude.{slice_get, if◌then◌else◌}
-use Rattle.std.proofs.lemmas.Bool.{false≢true, true≢false}
+use Rattle.std.proofs.lemmas.Bool.{false≢true}
 use Rattle.redn_words.specs.declared.types.Obs.{Obs}
 use Rattle.redn_words.specs.declared.types.Obs.TheVariants as shows
 use Rattle.redn_words.specs.Runs.{shown_then}
@@ -59,11 +59,6 @@ module _ (c : Course) where
   pub event_step : (closes : Bool) (y : Ghost) (e : Obs) (z : Ghost) → stages.Tells c closes y (e ∷ []) z → Tells c y.state e z.state
   event_step true y e z h = one_step y.ahead y.state e z.state h.0
   event_step false y e z h = one_step true y.state e z.state h.0
-
-  -- behind an event the graph is ahead, until the instruction or end is over
-  pub then_ahead : (closes : Bool) (y : Ghost) (e : Obs) (z : Ghost) → stages.Tells c closes y (e ∷ []) z → closes ≡ false → z.ahead ≡ true
-  then_ahead true y e z h f = absurd (true≢false f)
-  then_ahead false y e z h f = h.1
 
   -- a step that shows nothing, where the chain runs on
   go_silent : (t : Contents) (x z : GraphState) (need have : ℕ) → Tells c x shows.Nothing z → z.ended ≡ false → need ≤ have + step_cost c.graph z → Going t x [] t z need have

@@ -4,9 +4,10 @@ use Rattle.std.specs.Prelude.{nat_le, nat_lt}
 use Rattle.std.proofs.lemmas.Bool.{false≢true, true≢false, and_parts, leb-true, ltb-true, false_from_ne_true, cases_eq, eq-eqb, ne_eqb}
 use Rattle.redn_words.specs.Words.{bytes_at, with_bytes_at}
 use Rattle.redn_words.specs.Landings.{Change, change}
-use Rattle.redn_words.proofs.Bytes.{byte, covers, hits, over, over_missed, same_range, byte_put}
+use Rattle.redn_words.proofs.Bytes.{over_missed, same_range, byte_put}
+use Rattle.redn_words.specs.Bytes.{byte, covers, hits, over}
 use Rattle.redn_words.proofs.Places.{length-with_bytes_at, bytes_at-same}
-use Rattle.redn_kernel.specs.declared.types.Cell.TheVariants.{Var, Hidden, Argument, Num}
+use Rattle.redn_kernel.specs.declared.types.Cell.TheVariants.{Var}
 use Rattle.redn_segment.specs.declared.types.Space.{Space}
 use Rattle.redn_segment.specs.declared.types.Space.TheVariants as space
 use Rattle.redn_segment.specs.declared.types.Draft.{Draft}
@@ -30,28 +31,13 @@ use Rattle.redn_laps.proofs.LapEvent.{body_inside, length_there}
 use Rattle.redn_forms.specs.Formed.{Formed, IsFormed, Point, plan, its_meaning}
 use Rattle.redn_forms.proofs.Events.{promises}
 use Rattle.redn_forms.proofs.Varying.{is_variable_space, VarFlat, silent_flat}
+use Rattle.redn_window.proofs.Orders.{value_missed as value_same}
 
 -- other spaces than a variable
 other_space : (p : Space) (i : ℕ) → is_variable_space p ≡ false → same_space p (space.Cell (Var i)) ≡ false
 other_space (space.Cell (Var j)) i e = absurd (true≢false e)
-other_space (space.Cell (Hidden j)) i e = refl
-other_space (space.Cell (Argument j)) i e = refl
-other_space (space.Cell (Num n)) i e = refl
-other_space space.Reply i e = refl
-other_space space.Key i e = refl
-other_space (space.Scratch j) i e = refl
-other_space (space.Descriptor ring) i e = refl
-other_space (space.Slot q) i e = refl
-other_space (space.Table t) i e = refl
-
--- a byte that no landed body hits stays
-value_same : (marks : ℕ → Bool) (effects : ℕ → List Change) (n p before : ℕ) → ((k : ℕ) → k < n → marks k ≡ true → hits (effects k) p ≡ false) → value marks effects n p before ≡ before
-value_same marks effects zero p before h = refl
-value_same marks effects (suc n) p before h = by_mark (value_same marks effects n p before (λ k l e. h k (omega (arith, l)) e)) (marks n) refl
-  where
-    by_mark : value marks effects n p before ≡ before → (b : Bool) → marks n ≡ b → cond b (over (effects n) p (value marks effects n p before)) (value marks effects n p before) ≡ before
-    by_mark rest true e = over_missed (effects n) p (value marks effects n p before) (h n (omega arith) e) ∙ rest
-    by_mark rest false e = rest
+other_space (space.Cell _) i e = refl
+other_space _ i e = refl
 
 -- one that only one body may hit is as that leaves it
 value_one : (marks : ℕ → Bool) (effects : ℕ → List Change) (n ev p before : ℕ) → ev < n → marks ev ≡ true → ((k : ℕ) → k < n → k ≢ ev → marks k ≡ true → hits (effects k) p ≡ false) → value marks effects n p before ≡ over (effects ev) p before

@@ -8,7 +8,7 @@ use Rattle.redn_words.specs.declared.types.Obs.{Obs}
 use Rattle.redn_words.specs.declared.types.Obs.TheVariants as shows
 use Rattle.redn_words.specs.Words.{bytes_at, word, spelled}
 use Rattle.redn_words.specs.Landings.{Change}
-use Rattle.redn_words.proofs.Bytes.{hits}
+use Rattle.redn_words.specs.Bytes.{hits}
 use Rattle.redn_words.proofs.Digits.{spelled-number}
 use Rattle.redn_kernel.specs.declared.types.Cell.TheVariants.{Var}
 use Rattle.redn_graph.specs.Run.{GraphState}

@@ -7,7 +7,8 @@ use Rattle.redn_words.specs.declared.types.Obs.TheVariants as shows
 use Rattle.redn_words.specs.Words.{word}
 use Rattle.redn_words.specs.Landings.{changed}
 use Rattle.redn_words.specs.Ranges.{Fits}
-use Rattle.redn_words.proofs.Bytes.{byte, covers, hits, over_missed, byte-changed, length-changed}
+use Rattle.redn_words.proofs.Bytes.{over_missed, byte-changed, length-changed}
+use Rattle.redn_words.specs.Bytes.{byte, covers, hits}
 use Rattle.redn_kernel.specs.Source.{bytes_of}
 use Rattle.redn_segment.specs.declared.types.Space.{Space}
 use Rattle.redn_segment.specs.declared.types.Space.TheVariants as space
@@ -31,26 +32,11 @@ truth_of see t p (shows.Look c k o w) h same is_true =
     let e = same k h in (ap (λ (l : List ℕ). nat_le (o + 8) (length l)) (sym e) ∙ is_true.0, ap (λ (l : List ℕ). word l o) (sym e) ∙ is_true.1)
 truth_of see t p (shows.Store c k o w) h same is_true = absurd h
 truth_of see t p (shows.Fault c k o) h same is_true = ap (λ (l : List ℕ). nat_le (o + 8) (length l)) (sym (same k h)) ∙ is_true
-truth_of see t p shows.Nothing h same is_true = tt
-truth_of see t p (shows.Set c v w) h same is_true = tt
-truth_of see t p (shows.Reply c n ws) h same is_true = tt
-truth_of see t p (shows.Stale q i) h same is_true = tt
-truth_of see t p (shows.Undefined q i) h same is_true = tt
-truth_of see t p (shows.Refused q i) h same is_true = tt
-truth_of see t p (shows.Odd q i) h same is_true = tt
+truth_of see t p _ h same is_true = tt
 
 pub stored_none : (t : Contents) (p : Space) (o : Obs) → OfSpace p o → stored t o ≡ t
-stored_none t p (shows.Load c v k o w) h = refl
-stored_none t p (shows.Look c k o w) h = refl
 stored_none t p (shows.Store c k o w) h = absurd h
-stored_none t p (shows.Fault c k o) h = refl
-stored_none t p shows.Nothing h = refl
-stored_none t p (shows.Set c v w) h = refl
-stored_none t p (shows.Reply c n ws) h = refl
-stored_none t p (shows.Stale q i) h = refl
-stored_none t p (shows.Undefined q i) h = refl
-stored_none t p (shows.Refused q i) h = refl
-stored_none t p (shows.Odd q i) h = refl
+stored_none t p _ h = refl
 
 module _ (c : Plan) (laid : IsLaid c) (shelves : Shelves) (private : (p : ℕ) → c.ours p ≡ true → is_shared shelves p ≡ false) where
   misses : (us : List Put) → AllFlat us → Inside c.home c.mine us → (p : ℕ) → is_shared shelves p ≡ true → hits (map (change_of c.home) us) p ≡ false

@@ -8,13 +8,11 @@ pub mod Shapes
 pub mod Goings
 pub mod Events
 pub mod Shelved
-pub mod Leaving
 pub mod Onwards
 pub mod Moving
 pub mod Tabling
 pub mod Faulting
 pub mod Keeping
-pub mod Refused
 pub mod Tellings
 pub mod Endings
 pub mod Varying

@@ -6,18 +6,18 @@ use Rattle.redn_words.proofs.Numbers.{number-spelled, length-spelled}
 use Rattle.redn_segment.specs.declared.types.Space.TheVariants as space
 use Rattle.redn_segment.specs.declared.types.Draft.{Draft}
 use Rattle.redn_segment.specs.Plain.{Bytes}
-use Rattle.redn_window.specs.Windows.{Opening}
 use Rattle.redn_window.specs.Scripts.{IsOver, Behind}
 use Rattle.redn_homes.specs.Homes.{seen_in, change_of}
 use Rattle.redn_homes.specs.Segments.{slot_space}
 use Rattle.redn_recycle.specs.Laps.{gates_of, enable_of, opening_at}
 use Rattle.redn_laps.specs.Plans.{Plan, is_ring, IsBody}
-use Rattle.redn_laps.specs.Turns.{Meaning, Ready, HasBytes, GoesTo, script_of, segment_of, window_at}
+use Rattle.redn_laps.specs.Turns.{Meaning, Ready, HasBytes, GoesTo, script_of, segment_of}
 use Rattle.redn_laps.proofs.LapNext.{seen_bytes}
 use Rattle.redn_laps.proofs.LapWindows.{gates_count, ring_small}
 use Rattle.redn_laps.proofs.LapScript.{goes_on}
 use Rattle.redn_forms.specs.Formed.{Formed, IsFormed, Point, plan, its_meaning}
-use Rattle.redn_forms.proofs.Leaving.{Left, left}
+use Rattle.redn_laps.proofs.LapEvent.{Left}
+use Rattle.redn_laps.proofs.LapBehind.{left}
 use Rattle.redn_forms.proofs.Events.{promises}
 
 -- descriptors of other rings differ
@@ -54,9 +54,6 @@ module _ (f : Formed) (h : IsFormed f) where
 
     abbrev ready : Ready c G x m
     ready = over.ready
-
-    abbrev w : Opening
-    w = window_at c G x m
 
     abbrev s : Bytes
     s = seen_in c.home m

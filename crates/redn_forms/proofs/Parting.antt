@@ -3,9 +3,9 @@ use Rattle.std.proofs.Common.{◌≡◌, ℕ, zero, suc, ◌+◌, ◌*◌, ◌�
 use Rattle.std.specs.Prelude.{slice_get, Some, None, Option}
 use Rattle.std.proofs.lemmas.Bool.{false≢true}
 use Rattle.redn_kernel.specs.declared.types.Cell.{Cell}
-use Rattle.redn_kernel.specs.declared.types.Cell.TheVariants.{Var, Hidden, Argument, Num}
+use Rattle.redn_kernel.specs.declared.types.Cell.TheVariants.{Var, Num}
 use Rattle.redn_graph.specs.declared.types.Instr.{Instr}
-use Rattle.redn_graph.specs.declared.types.Instr.TheVariants.{Set, Move, Add, Load, Store}
+use Rattle.redn_graph.specs.declared.types.Instr.TheVariants.{Set, Move, Add}
 use Rattle.redn_graph.specs.declared.types.End.{End}
 use Rattle.redn_graph.specs.declared.types.End.TheVariants.{Jump, Test48, Test64, Probe, Reply}
 use Rattle.redn_graph.specs.Run.{instr_cost, end_cost}
@@ -26,23 +26,16 @@ flat_is at (p ∷ ps) = ap (λ (x : List (List Draft)). part_segments at p ++ x)
 instr_actions : (at : SlotRef) (i : Instr) → actions (part_segments at (instr_part i)) ≤ instr_cost i
 unfolding instr_cost
 instr_actions at (Set to v) = omega arith
-instr_actions at (Move to from) = omega arith
 instr_actions at (Add to (Var x)) = omega arith
-instr_actions at (Add to (Hidden k)) = omega arith
-instr_actions at (Add to (Argument i)) = omega arith
-instr_actions at (Add to (Num n)) = omega arith
-instr_actions at (Load to table offset) = omega arith
-instr_actions at (Store table offset from) = omega arith
+instr_actions at (Add to _) = omega arith
+instr_actions at _ = omega arith
 
 instr_quiet : (at : SlotRef) (i : Instr) → Quiet (part_segments at (instr_part i))
 instr_quiet at (Set to v) = (refl, tt)
 instr_quiet at (Move to from) = (refl, tt)
-instr_quiet at (Add to (Var x)) = (refl, (refl, tt))
-instr_quiet at (Add to (Hidden k)) = (refl, (refl, tt))
-instr_quiet at (Add to (Argument i)) = (refl, (refl, tt))
 instr_quiet at (Add to (Num n)) = (refl, tt)
-instr_quiet at (Load to table offset) = (refl, (refl, tt))
-instr_quiet at (Store table offset from) = (refl, (refl, tt))
+instr_quiet at (Add to _) = (refl, (refl, tt))
+instr_quiet at _ = (refl, (refl, tt))
 
 copies_quiet : (i : ℕ) (words : List Cell) → sends (copies_from i words) ≡ false
 copies_quiet i [] = refl
@@ -57,11 +50,8 @@ reply_cost n ds quiet long few = let s : segment_actions ds ≡ 4 * length ds + 
 
 end_actions : (most first : ℕ) (at : SlotRef) (e : End) → EndFits most first e → actions (part_segments at (end_part first e)) ≤ end_cost false e
 unfolding end_cost
-end_actions most first at (Jump to) f = omega arith
-end_actions most first at (Test48 left right met unmet) f = omega arith
-end_actions most first at (Test64 left right met unmet) f = omega arith
-end_actions most first at (Probe to table offset key hit miss) f = omega arith
 end_actions most first at (Reply words) f = reply_cost (length words) (copies_from 0 words) (copies_quiet 0 words) (copies_long 0 words) f.1
+end_actions most first at _ f = omega arith
 
 end_sends : (first : ℕ) (at : SlotRef) (e : End) → MaySend (part_segments at (end_part first e))
 end_sends first at (Jump to) = record { front = _ ∷ []; last = []; alone = λ e. absurd (false≢true e); whole = refl; quiet = (refl, tt); more = omega arith }

@@ -9,23 +9,22 @@ use Rattle.redn_words.specs.declared.types.Kind.TheVariants.{Vars, Table, Code, 
 use Rattle.redn_words.specs.declared.types.Request.{Request}
 use Rattle.redn_words.specs.declared.types.Origin.{Origin}
 use Rattle.redn_words.specs.declared.types.Opcode.{Opcode}
-use Rattle.redn_words.specs.declared.types.Opcode.TheVariants.{Noop, Write, Read, Cas, Add, Send, Wait, Enable, Undefined}
+use Rattle.redn_words.specs.declared.types.Opcode.TheVariants.{Noop, Write, Read, Cas, Add, Send}
 use Rattle.redn_words.specs.Landings.{write_shows, write_to, read_shows, read_into_vars, read_hidden, add_shows, cas_shows, send_shows, reply_words, is_hidden, when}
 use Rattle.redn_words.specs.Words.{word}
-use Rattle.redn_kernel.specs.declared.types.Cell.TheVariants.{Var, Hidden, Argument, Num}
-use Rattle.redn_segment.specs.declared.types.Space.{Space}
-use Rattle.redn_segment.specs.declared.types.Space.TheVariants as space
+use Rattle.redn_kernel.specs.declared.types.Cell.TheVariants.{Var}
 use Rattle.redn_segment.specs.declared.types.Site.{Site}
 use Rattle.redn_segment.specs.declared.types.Site.TheVariants as site
 use Rattle.redn_segment.specs.declared.types.Draft.{Draft}
 use Rattle.redn_segment.specs.Primed.{IsBytes}
 use Rattle.redn_segment.proofs.Halves.{number_small}
 use Rattle.redn_segment.specs.Orders.{is_send}
-use Rattle.redn_segment.specs.Plain.{Bytes, Put, Outcome, Went, Faults, Bad, acts, with_event, past_table, local_space, remote_space, local_bytes, remote_bytes, remote_at, request_of, origin, fits, reaches, is_atomic, is_length}
+use Rattle.redn_segment.specs.Plain.{Bytes, Put, Outcome, Went, Bad, acts, with_event, local_space, remote_space, local_bytes, remote_bytes, request_of, origin, fits, reaches, is_atomic, is_length}
 use Rattle.redn_segment.specs.Sites.{kind_of, space_of, is_table, inside}
 use Rattle.redn_segment.specs.Templates.{is_shown, may_show_by}
 use Rattle.redn_rounds.specs.Truth.{IsTrueBy}
 use Rattle.redn_forms.specs.States.{Reads}
+use Rattle.redn_segment.proofs.PutSides.{not_past as past_none}
 
 -- an event of a word, or an odd one
 abbrev pub IsWordy : Obs → ℕ → Type 0
@@ -53,31 +52,21 @@ module _ (op : Opcode) (p : Put) (rest : List Put) (us : List Put) (events : Lis
   one e some h is = Words e p rest (went_events (p ∷ rest) us (e ∷ []) events is) some (went_puts (p ∷ rest) us (e ∷ []) events is) h not_send
 
   wordy : (e : Obs) → IsWordy e (word p.bytes 0) → with_event (p ∷ rest) e ≡ Went us events → Shape op us events
-  wordy shows.Nothing h is = absurd h
   wordy (shows.Set c v w) h is = one (shows.Set c v w) (λ f. absurd (cc)) h is
   wordy (shows.Load c v t o w) h is = one (shows.Load c v t o w) (λ f. absurd (cc)) h is
   wordy (shows.Look c t o w) h is = one (shows.Look c t o w) (λ f. absurd (cc)) h is
   wordy (shows.Store c t o w) h is = one (shows.Store c t o w) (λ f. absurd (cc)) h is
-  wordy (shows.Reply c n ws) h is = absurd h
-  wordy (shows.Fault c t o) h is = absurd h
-  wordy (shows.Stale q i) h is = absurd h
-  wordy (shows.Undefined q i) h is = absurd h
-  wordy (shows.Refused q i) h is = absurd h
   wordy (shows.Odd q i) h is = absurd (cc)
+  wordy _ h is = absurd h
 
 -- what is true of tables of bytes tells a word
 pub reads_of : (see : ℕ → List ℕ) (e : Obs) (w : ℕ) → ((t : ℕ) → IsBytes (see t)) → IsTrueBy see e → IsWordy e w → Reads e w
-reads_of see shows.Nothing w bytes is_true h = absurd h
 reads_of see (shows.Set c v u) w bytes is_true h = tt
 reads_of see (shows.Load c v t o u) w bytes is_true h = (h, subst (λ (k : ℕ). k < 2 ^ 64) (is_true.1 ∙ h) (number_small 8 o (see t) (bytes t)))
 reads_of see (shows.Look c t o u) w bytes is_true h = (h, subst (λ (k : ℕ). k < 2 ^ 64) (is_true.1 ∙ h) (number_small 8 o (see t) (bytes t)))
 reads_of see (shows.Store c t o u) w bytes is_true h = tt
-reads_of see (shows.Reply c n ws) w bytes is_true h = absurd h
-reads_of see (shows.Fault c t o) w bytes is_true h = absurd h
-reads_of see (shows.Stale q i) w bytes is_true h = absurd h
-reads_of see (shows.Undefined q i) w bytes is_true h = absurd h
-reads_of see (shows.Refused q i) w bytes is_true h = absurd h
 reads_of see (shows.Odd q i) w bytes is_true h = tt
+reads_of see _ w bytes is_true h = absurd h
 
 abbrev tells_events : Kind → Bool
 tells_events Vars = true
@@ -86,28 +75,17 @@ tells_events _ = false
 
 site_tells : (x : Site) → is_shown x ≡ true → tells_events (kind_of (space_of x)) ≡ true
 site_tells (site.Cell (Var i)) h = refl
-site_tells (site.Cell (Hidden i)) h = absurd (false≢true h)
-site_tells (site.Cell (Argument i)) h = absurd (false≢true h)
-site_tells (site.Cell (Num n)) h = absurd (false≢true h)
-site_tells (site.ReplyWord i) h = absurd (false≢true h)
-site_tells site.Key h = absurd (false≢true h)
-site_tells (site.Scratch i) h = absurd (false≢true h)
-site_tells (site.Descriptor i) h = absurd (false≢true h)
-site_tells (site.Field f) h = absurd (false≢true h)
 site_tells (site.Table t o) h = refl
+site_tells (site.Cell _) h = absurd (false≢true h)
+site_tells _ h = absurd (false≢true h)
 
 abbrev is_table_kind : Kind → Bool
 is_table_kind (Table t) = true
 is_table_kind _ = false
 
 site_table : (x : Site) → is_table x ≡ true → is_table_kind (kind_of (space_of x)) ≡ true
-site_table (site.Cell c) h = absurd (false≢true h)
-site_table (site.ReplyWord i) h = absurd (false≢true h)
-site_table site.Key h = absurd (false≢true h)
-site_table (site.Scratch i) h = absurd (false≢true h)
-site_table (site.Descriptor i) h = absurd (false≢true h)
-site_table (site.Field f) h = absurd (false≢true h)
 site_table (site.Table t o) h = refl
+site_table _ h = absurd (false≢true h)
 
 module _ (o : Origin) (r : Request) (w u : ℕ) where
   when_wordy : (b : Bool) (e : Obs) → IsWordy e u → IsWordy (when b e o) u
@@ -117,37 +95,25 @@ module _ (o : Origin) (r : Request) (w u : ℕ) where
   to_wordy : (k : Kind) → tells_events k ≡ true → IsWordy (write_to o r w k) u
   to_wordy Vars h = when_wordy (r.length == 8 && r.remote % 8 == 0) (shows.Set o.chain (r.remote / 8) w) tt
   to_wordy (Table t) h = when_wordy (r.length == 8) (shows.Store o.chain t r.remote w) tt
-  to_wordy Code h = absurd (false≢true h)
-  to_wordy Control h = absurd (false≢true h)
-  to_wordy Message h = absurd (false≢true h)
+  to_wordy _ h = absurd (false≢true h)
 
   write_wordy : (j k : Kind) → tells_events k ≡ true → IsWordy (write_shows o r w j k) u
   write_wordy (Table t) k h = tt
-  write_wordy Vars k h = to_wordy k h
-  write_wordy Code k h = to_wordy k h
-  write_wordy Control k h = to_wordy k h
-  write_wordy Message k h = to_wordy k h
+  write_wordy _ k h = to_wordy k h
 
   hidden_wordy : (k : Kind) → is_table_kind k ≡ true → w ≡ u → IsWordy (read_hidden o r w k) u
   hidden_wordy (Table t) h e = when_wordy (r.length == 8) (shows.Look o.chain t r.remote w) e
-  hidden_wordy Vars h e = absurd (false≢true h)
-  hidden_wordy Code h e = absurd (false≢true h)
-  hidden_wordy Control h e = absurd (false≢true h)
-  hidden_wordy Message h e = absurd (false≢true h)
+  hidden_wordy _ h e = absurd (false≢true h)
 
   vars_wordy : (k : Kind) → is_table_kind k ≡ true → w ≡ u → IsWordy (read_into_vars o r w k) u
   vars_wordy (Table t) h e = when_wordy (r.length == 8 && r.local % 8 == 0) (shows.Load o.chain (r.local / 8) t r.remote w) e
-  vars_wordy Vars h e = absurd (false≢true h)
-  vars_wordy Code h e = absurd (false≢true h)
-  vars_wordy Control h e = absurd (false≢true h)
-  vars_wordy Message h e = absurd (false≢true h)
+  vars_wordy _ h e = absurd (false≢true h)
 
   read_wordy : (j k : Kind) → is_table_kind k ≡ true → w ≡ u → IsWordy (read_shows o r w j k) u
   read_wordy Vars k h e = vars_wordy k h e
-  read_wordy Code k h e = hidden_wordy k h e
-  read_wordy Control k h e = hidden_wordy k h e
   read_wordy (Table t) k h e = tt
   read_wordy Message k h e = tt
+  read_wordy _ k h e = hidden_wordy k h e
 
   add_wordy : (b : Bool) (k : Kind) → tells_events k ≡ true → IsWordy (cond b (add_shows o r w Code k) (shows.Odd o.queue o.index)) u
   add_wordy false k h = tt
@@ -156,20 +122,6 @@ module _ (o : Origin) (r : Request) (w u : ℕ) where
   add_wordy true Code h = absurd (false≢true h)
   add_wordy true Control h = absurd (false≢true h)
   add_wordy true Message h = absurd (false≢true h)
-
--- a draft that fits and reaches goes on
-pub past_none : (chain : ℕ) (slot : List ℕ) (d : Draft) (p : Space) (us : List Put) (events : List Obs) → past_table chain slot d p ≡ Went us events → ⊥
-past_none chain slot d (space.Table t) us events e = by_length (d.length == 8) e
-  where
-    by_length : (b : Bool) → cond b (Faults [] (shows.Fault chain t (remote_at slot d) ∷ [])) Bad ≡ Went us events → ⊥
-    by_length true f = absurd (cc)
-    by_length false f = absurd (cc)
-past_none chain slot d (space.Cell c) us events e = absurd (cc)
-past_none chain slot d space.Reply us events e = absurd (cc)
-past_none chain slot d space.Key us events e = absurd (cc)
-past_none chain slot d (space.Scratch i) us events e = absurd (cc)
-past_none chain slot d (space.Descriptor ring) us events e = absurd (cc)
-past_none chain slot d (space.Slot q) us events e = absurd (cc)
 
 pub fit : (b : Bool) (o : Outcome) (us : List Put) (events : List Obs) → cond (not b) Bad o ≡ Went us events → o ≡ Went us events
 fit true o us events e = e
@@ -190,20 +142,15 @@ odd_cas o j (Table t) us vs events h e = by_near (is_hidden j) e
     by_near : (b : Bool) → with_event us (when (b && false) shows.Nothing o) ≡ Went vs events → ⊥
     by_near true f = absurd (cc)
     by_near false f = absurd (cc)
-odd_cas o j Code us vs events h e = absurd (false≢true h)
-odd_cas o j Control us vs events h e = absurd (false≢true h)
-odd_cas o j Message us vs events h e = absurd (false≢true h)
+odd_cas o j _ us vs events h e = absurd (false≢true h)
 
 sent : (o : Origin) (r : Request) (bytes : List ℕ) (k : Kind) (us : List Put) (events : List Obs) → with_event [] (send_shows o r bytes k) ≡ Went us events → Shape Send us events
-sent o r bytes Vars us events e = absurd (cc)
-sent o r bytes (Table t) us events e = absurd (cc)
-sent o r bytes Code us events e = absurd (cc)
-sent o r bytes Message us events e = absurd (cc)
 sent o r bytes Control us events e = by_size (r.length % 8 == 0 && nat_le r.length 64) o.chain (r.length / 8) (reply_words (r.length / 8) bytes) e
   where
     by_size : (b : Bool) (n k : ℕ) (ws : List ℕ) → with_event [] (when b (shows.Reply n k ws) o) ≡ Went us events → Shape Send us events
     by_size true n k ws f = Sends n k ws (went_events [] us (shows.Reply n k ws ∷ []) events f) (went_puts [] us (shows.Reply n k ws ∷ []) events f) refl
     by_size false n k ws f = absurd (cc)
+sent o r bytes _ us events e = absurd (cc)
 
 module _ (chain : ℕ) (s : Bytes) (slot : List ℕ) (d : Draft) (us : List Put) (events : List Obs) where
   pub shape : (op : Opcode) → may_show_by d op ≡ true → (op ≡ Read → is_table d.remote ≡ true) → acts chain s slot d op ≡ Went us events → Shape op us events
@@ -217,6 +164,4 @@ module _ (chain : ℕ) (s : Bytes) (slot : List ℕ) (d : Draft) (us : List Put)
   shape Add h g e =
       wordy Add _ _ us events refl _ (add_wordy (origin chain) (request_of slot d) _ _ (is_hidden (kind_of (local_space d))) (kind_of (remote_space d)) (site_tells d.remote h)) (fit (fits d 8 && is_atomic d) _ us events e)
   shape Send h g e = sent (origin chain) (request_of slot d) _ (kind_of (local_space d)) us events (fit (is_length d.length && (not (is_table d.local) && inside d.local d.local_byte d.length)) _ us events e)
-  shape Wait h g e = absurd (cc)
-  shape Enable h g e = absurd (cc)
-  shape (Undefined n) h g e = absurd (cc)
+  shape _ h g e = absurd (cc)

@@ -5,7 +5,8 @@ use Rattle.std.specs.List.{list_any, range_with_len}
 use Rattle.std.proofs.lemmas.Bool.{and_from, le-leb, leb-true, lt-ltb, cases_eq, or_right}
 use Rattle.std.proofs.lemmas.List.{get_or-set_same, get_or-set_other, length-set}
 use Rattle.redn_words.specs.Words.{bytes_at, with_bytes_at, spelled}
-use Rattle.redn_words.proofs.Bytes.{byte, same_range}
+use Rattle.redn_words.proofs.Bytes.{same_range}
+use Rattle.redn_words.specs.Bytes.{byte}
 use Rattle.redn_words.proofs.Places.{bytes_at-other}
 use Rattle.redn_words.proofs.Fields.{bytes_at-part}
 use Rattle.redn_words.proofs.Numbers.{length-spelled}

@@ -38,15 +38,11 @@ IsAtSpot p _ = Unit {0}
 module _ (c : ℕ) (words : List ℕ) (tables : List (List ℕ)) (s : Cells) where
   put_spot : (to : Cell) (v : ℕ) (p : Spot) → IsAtSpot p (shown_put c to v)
   put_spot (cell.Var x) v p = tt
-  put_spot (cell.Hidden k) v p = tt
-  put_spot (cell.Argument i) v p = tt
-  put_spot (cell.Num n) v p = tt
+  put_spot _ v p = tt
 
   load_spot : (to : Cell) (t o v : ℕ) → IsAtSpot (spot t o) (shown_load c to t o v)
   load_spot (cell.Var x) t o v = refl
-  load_spot (cell.Hidden k) t o v = refl
-  load_spot (cell.Argument i) t o v = refl
-  load_spot (cell.Num n) t o v = refl
+  load_spot _ t o v = refl
 
   within_spot : (t o : ℕ) (e : Effect) → IsAtSpot (spot t o) e.event → IsAtSpot (spot t o) (within c words tables s t o e).event
   within_spot t o e h = by_word (has_word tables t o)
@@ -143,15 +139,11 @@ no_word t o = let e : bytes_of [] t ≡ [] = refl in ap (λ (l : List ℕ). nat_
 module _ (c : ℕ) (words : List ℕ) (tables : List (List ℕ)) (s : Cells) where
   put_clean : (to : Cell) (v : ℕ) → IsClean (shown_put c to v)
   put_clean (cell.Var x) v = tt
-  put_clean (cell.Hidden k) v = tt
-  put_clean (cell.Argument i) v = tt
-  put_clean (cell.Num n) v = tt
+  put_clean _ v = tt
 
   load_clean : (to : Cell) (t o v : ℕ) → IsClean (shown_load c to t o v)
   load_clean (cell.Var x) t o v = tt
-  load_clean (cell.Hidden k) t o v = tt
-  load_clean (cell.Argument i) t o v = tt
-  load_clean (cell.Num n) t o v = tt
+  load_clean _ t o v = tt
 
   within_clean : (t o : ℕ) (e : Effect) → IsClean e.event → IsClean (within c words tables s t o e).event
   within_clean t o e h = by_word (has_word tables t o)
@@ -210,21 +202,15 @@ module _ (c : ℕ) (words : List ℕ) (tables : List (List ℕ)) (x : GraphState
 
   sets_behind : (to : Cell) (v : ℕ) → Leaves (effect c words tables x.cells (put x.cells to v) Way.On (shown_put c to v))
   sets_behind (cell.Var y) v = refl
-  sets_behind (cell.Hidden k) v = refl
-  sets_behind (cell.Argument i) v = refl
-  sets_behind (cell.Num n) v = refl
+  sets_behind _ v = refl
 
   on_behind : (to : Cell) (t o v : ℕ) → Leaves (effect c words tables x.cells (put x.cells to v) Way.On (shown_load c to t o v))
   on_behind (cell.Var y) t o v = refl
-  on_behind (cell.Hidden k) t o v = refl
-  on_behind (cell.Argument i) t o v = refl
-  on_behind (cell.Num n) t o v = refl
+  on_behind _ t o v = refl
 
   to_behind : (block : ℕ) (to : Cell) (t o v : ℕ) → Leaves (effect c words tables x.cells (put x.cells to v) (Way.To block) (shown_load c to t o v))
   to_behind block (cell.Var y) t o v = refl
-  to_behind block (cell.Hidden k) t o v = refl
-  to_behind block (cell.Argument i) t o v = refl
-  to_behind block (cell.Num n) t o v = refl
+  to_behind block _ t o v = refl
 
   within_behind : (t o : ℕ) (e : Effect) → Leaves e → Leaves (within c words tables x.cells t o e)
   within_behind t o e h = by_word (has_word tables t o)

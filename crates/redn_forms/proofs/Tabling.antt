@@ -9,10 +9,10 @@ use Rattle.redn_words.specs.declared.types.Kind.TheVariants.{Vars, Table, Code, 
 use Rattle.redn_words.specs.declared.types.Request.{Request}
 use Rattle.redn_words.specs.declared.types.Origin.{Origin}
 use Rattle.redn_words.specs.declared.types.Opcode.{Opcode}
-use Rattle.redn_words.specs.declared.types.Opcode.TheVariants.{Noop, Write, Read, Cas, Add, Send, Wait, Enable, Undefined}
+use Rattle.redn_words.specs.declared.types.Opcode.TheVariants.{Noop, Write, Read, Cas, Add, Send}
 use Rattle.redn_words.specs.Landings.{write_shows, write_to, read_shows, read_into_vars, read_hidden, add_shows, send_shows, is_hidden, when}
 use Rattle.redn_words.specs.Words.{word, spelled}
-use Rattle.redn_kernel.specs.declared.types.Cell.TheVariants.{Var, Hidden, Argument, Num}
+use Rattle.redn_kernel.specs.declared.types.Cell.TheVariants.{Var}
 use Rattle.redn_segment.specs.declared.types.Space.{Space}
 use Rattle.redn_segment.specs.declared.types.Space.TheVariants as space
 use Rattle.redn_segment.specs.declared.types.Draft.{Draft}
@@ -21,7 +21,8 @@ use Rattle.redn_segment.specs.Sites.{kind_of, is_table, inside, offset_of}
 use Rattle.redn_segment.proofs.SameSpace.{table_space}
 use Rattle.redn_segment.proofs.Kept.{not_true}
 use Rattle.redn_homes.specs.Segments.{is_table_space}
-use Rattle.redn_forms.proofs.Shapes.{went_puts, went_events, past_none, fit, reach}
+use Rattle.redn_forms.proofs.Shapes.{went_puts, went_events, fit, reach}
+use Rattle.redn_segment.proofs.PutSides.{not_past as past_none}
 
 -- no table
 abbrev pub AllFlat : List Put → Type 0
@@ -47,11 +48,7 @@ told_of p us vs events (shows.Load c v t o w) h is = subst (AllOf p) (sym (went_
 told_of p us vs events (shows.Look c t o w) h is = subst (AllOf p) (sym (went_events us vs (shows.Look c t o w ∷ []) events is)) (h, tt)
 told_of p us vs events (shows.Store c t o w) h is = absurd h
 told_of p us vs events (shows.Reply c n ws) h is = subst (AllOf p) (sym (went_events us vs (shows.Reply c n ws ∷ []) events is)) (h, tt)
-told_of p us vs events (shows.Fault c t o) h is = absurd (cc)
-told_of p us vs events (shows.Stale q i) h is = absurd (cc)
-told_of p us vs events (shows.Undefined q i) h is = absurd (cc)
-told_of p us vs events (shows.Refused q i) h is = absurd (cc)
-told_of p us vs events (shows.Odd q i) h is = absurd (cc)
+told_of p us vs events _ h is = absurd (cc)
 
 pub puts_are : (us vs : List Put) (e : Obs) (events : List Obs) → with_event us e ≡ Went vs events → vs ≡ us
 puts_are us vs shows.Nothing events is = went_puts us vs [] events is
@@ -60,11 +57,7 @@ puts_are us vs (shows.Load c v t o w) events is = went_puts us vs (shows.Load c 
 puts_are us vs (shows.Look c t o w) events is = went_puts us vs (shows.Look c t o w ∷ []) events is
 puts_are us vs (shows.Store c t o w) events is = went_puts us vs (shows.Store c t o w ∷ []) events is
 puts_are us vs (shows.Reply c n ws) events is = went_puts us vs (shows.Reply c n ws ∷ []) events is
-puts_are us vs (shows.Fault c t o) events is = absurd (cc)
-puts_are us vs (shows.Stale q i) events is = absurd (cc)
-puts_are us vs (shows.Undefined q i) events is = absurd (cc)
-puts_are us vs (shows.Refused q i) events is = absurd (cc)
-puts_are us vs (shows.Odd q i) events is = absurd (cc)
+puts_are us vs _ events is = absurd (cc)
 
 abbrev flat_kind : Kind → Bool
 flat_kind (Table t) = false
@@ -73,14 +66,8 @@ flat_kind _ = true
 flat_space : (p : Space) → is_table_space p ≡ false → flat_kind (kind_of p) ≡ true
 flat_space (space.Table t) e = absurd (true≢false e)
 flat_space (space.Cell (Var i)) e = refl
-flat_space (space.Cell (Hidden i)) e = refl
-flat_space (space.Cell (Argument i)) e = refl
-flat_space (space.Cell (Num n)) e = refl
-flat_space space.Reply e = refl
-flat_space space.Key e = refl
-flat_space (space.Scratch i) e = refl
-flat_space (space.Descriptor ring) e = refl
-flat_space (space.Slot q) e = refl
+flat_space (space.Cell _) e = refl
+flat_space _ e = refl
 
 module _ (o : Origin) (r : Request) (w : ℕ) (p : Space) where
   when_of : (b : Bool) (e : Obs) → OfSpace p e → OfSpace p (when b e o)
@@ -90,37 +77,25 @@ module _ (o : Origin) (r : Request) (w : ℕ) (p : Space) where
   to_of : (k : Kind) → flat_kind k ≡ true → OfSpace p (write_to o r w k)
   to_of Vars h = when_of (r.length == 8 && r.remote % 8 == 0) (shows.Set o.chain (r.remote / 8) w) tt
   to_of (Table t) h = absurd (false≢true h)
-  to_of Code h = tt
-  to_of Control h = tt
-  to_of Message h = tt
+  to_of _ h = tt
 
   write_of : (j k : Kind) → flat_kind k ≡ true → OfSpace p (write_shows o r w j k)
   write_of (Table t) k h = tt
-  write_of Vars k h = to_of k h
-  write_of Code k h = to_of k h
-  write_of Control k h = to_of k h
-  write_of Message k h = to_of k h
+  write_of _ k h = to_of k h
 
   vars_of : (k : Kind) → ((t : ℕ) → k ≡ Table t → p ≡ space.Table t) → OfSpace p (read_into_vars o r w k)
   vars_of (Table t) h = when_of (r.length == 8 && r.local % 8 == 0) (shows.Load o.chain (r.local / 8) t r.remote w) (h t refl)
-  vars_of Vars h = when_of (r.length == 8 && r.local % 8 == 0) (shows.Set o.chain (r.local / 8) w) tt
-  vars_of Code h = when_of (r.length == 8 && r.local % 8 == 0) (shows.Set o.chain (r.local / 8) w) tt
-  vars_of Control h = when_of (r.length == 8 && r.local % 8 == 0) (shows.Set o.chain (r.local / 8) w) tt
-  vars_of Message h = when_of (r.length == 8 && r.local % 8 == 0) (shows.Set o.chain (r.local / 8) w) tt
+  vars_of _ h = when_of (r.length == 8 && r.local % 8 == 0) (shows.Set o.chain (r.local / 8) w) tt
 
   hidden_of : (k : Kind) → ((t : ℕ) → k ≡ Table t → p ≡ space.Table t) → OfSpace p (read_hidden o r w k)
   hidden_of (Table t) h = when_of (r.length == 8) (shows.Look o.chain t r.remote w) (h t refl)
-  hidden_of Vars h = tt
-  hidden_of Code h = tt
-  hidden_of Control h = tt
-  hidden_of Message h = tt
+  hidden_of _ h = tt
 
   read_of : (j k : Kind) → ((t : ℕ) → k ≡ Table t → p ≡ space.Table t) → OfSpace p (read_shows o r w j k)
   read_of Vars k h = vars_of k h
-  read_of Code k h = hidden_of k h
-  read_of Control k h = hidden_of k h
   read_of (Table t) k h = tt
   read_of Message k h = tt
+  read_of _ k h = hidden_of k h
 
   add_of : (b : Bool) (k : Kind) → OfSpace p (cond b (add_shows o r w Code k) (shows.Odd o.queue o.index))
   add_of false k = tt
@@ -131,27 +106,18 @@ module _ (o : Origin) (r : Request) (w : ℕ) (p : Space) where
   add_of true Message = tt
 
   send_of : (bytes : List ℕ) (k : Kind) → OfSpace p (send_shows o r bytes k)
-  send_of bytes Vars = tt
-  send_of bytes (Table t) = tt
-  send_of bytes Code = tt
-  send_of bytes Message = tt
   send_of bytes Control = by_size _ _
     where
       by_size : (b : Bool) (ws : List ℕ) → OfSpace p (when b (shows.Reply o.chain (r.length / 8) ws) o)
       by_size true ws = tt
       by_size false ws = tt
+  send_of bytes _ = tt
 
 kind_table : (p : Space) (t : ℕ) → kind_of p ≡ Table t → p ≡ space.Table t
 kind_table (space.Table i) t e = let same : i ≡ t = cc in ap space.Table same
 kind_table (space.Cell (Var i)) t e = absurd (cc)
-kind_table (space.Cell (Hidden i)) t e = absurd (cc)
-kind_table (space.Cell (Argument i)) t e = absurd (cc)
-kind_table (space.Cell (Num n)) t e = absurd (cc)
-kind_table space.Reply t e = absurd (cc)
-kind_table space.Key t e = absurd (cc)
-kind_table (space.Scratch i) t e = absurd (cc)
-kind_table (space.Descriptor ring) t e = absurd (cc)
-kind_table (space.Slot q) t e = absurd (cc)
+kind_table (space.Cell _) t e = absurd (cc)
+kind_table _ t e = absurd (cc)
 
 pub fit_true : (b : Bool) (o : Outcome) (us : List Put) (events : List Obs) → cond (not b) Bad o ≡ Went us events → b ≡ true
 fit_true true o us events e = refl
@@ -171,10 +137,7 @@ store_went o r w t j us vs events e = by_kind j e
 
     by_kind : (k : Kind) → with_event us (write_shows o r w k (Table t)) ≡ Went vs events → (r.length ≡ 8) × (events ≡ shows.Store o.chain t r.remote w ∷ [])
     by_kind (Table i) g = absurd (cc)
-    by_kind Vars g = by_size (r.length == 8) refl g
-    by_kind Code g = by_size (r.length == 8) refl g
-    by_kind Control g = by_size (r.length == 8) refl g
-    by_kind Message g = by_size (r.length == 8) refl g
+    by_kind _ g = by_size (r.length == 8) refl g
 
 module _ (chain : ℕ) (s : Bytes) (slot : List ℕ) (d : Draft) (us : List Put) (events : List Obs) where
   pub data Touches : Type 0 where
@@ -222,11 +185,7 @@ module _ (chain : ℕ) (s : Bytes) (slot : List ℕ) (d : Draft) (us : List Put)
       (subst (λ (q : Space). remote_at slot d + 8 ≤ length (s q)) is le_eight)
       near.0 (subst (λ (n : ℕ). inside d.local d.local_byte n ≡ true) stored.0 near.1)
   writes (space.Cell a) is e = writes_flat (ap is_table_space is) e
-  writes space.Reply is e = writes_flat (ap is_table_space is) e
-  writes space.Key is e = writes_flat (ap is_table_space is) e
-  writes (space.Scratch i) is e = writes_flat (ap is_table_space is) e
-  writes (space.Descriptor ring) is e = writes_flat (ap is_table_space is) e
-  writes (space.Slot q) is e = writes_flat (ap is_table_space is) e
+  writes _ is e = writes_flat (ap is_table_space is) e
 
   swap_flat : (b : Bool) (rest : List Put) → is_table_space (remote_space d) ≡ false → AllFlat rest → AllFlat (swap slot d b ++ rest)
   swap_flat true rest e h = (e, h)
@@ -257,6 +216,4 @@ module _ (chain : ℕ) (s : Bytes) (slot : List ℕ) (d : Draft) (us : List Put)
   touches Send e =
       let goes = fit (is_length d.length && (not (is_table d.local) && inside d.local d.local_byte d.length)) _ us events e in
       Leaves (subst AllFlat (sym (puts_are _ us _ events goes)) tt) (told_of (remote_space d) _ us events _ (send_of (origin chain) (request_of slot d) 0 (remote_space d) _ (kind_of (local_space d))) goes)
-  touches Wait e = absurd (cc)
-  touches Enable e = absurd (cc)
-  touches (Undefined n) e = absurd (cc)
+  touches _ e = absurd (cc)

@@ -31,7 +31,7 @@ use Rattle.redn_laps.specs.Plans.{Plan, IsBody}
 use Rattle.redn_laps.specs.Turns.{Meaning, Ready, HasBytes, tabled, slot_in, window_at}
 use Rattle.redn_laps.proofs.LapKept.{body_at}
 use Rattle.redn_laps.proofs.LapNext.{seen_bytes}
-use Rattle.redn_laps.proofs.LapEvent.{EventPuts, event_puts, body_inside, length_there}
+use Rattle.redn_laps.proofs.LapEvent.{EventPuts, event_good, event_lands, event_puts, body_inside, length_there}
 use Rattle.redn_rings.proofs.Promised.{told_now, fails_now}
 use Rattle.redn_chains.specs.Machines.{Contents}
 use Rattle.redn_chains.specs.Forms.{World, Finds, Tells, Fails}
@@ -48,53 +48,22 @@ use Rattle.redn_forms.specs.Among.{IsAmong}
 use Rattle.redn_forms.specs.States.{fallen}
 use Rattle.redn_forms.proofs.Bytewise.{each_byte, take_whole}
 use Rattle.redn_forms.proofs.States.{graph_clean, steps_show}
-use Rattle.redn_forms.proofs.Refused.{event_good, event_lands}
 use Rattle.redn_forms.proofs.Faulting.{IsPast, is_past}
 use Rattle.redn_forms.proofs.Goings.{Going, Stood, As_before, Behind_it, go_none, go_one, still_runs, event_step, one_step}
 use Rattle.redn_forms.proofs.Shapes.{Shape, Idle, Words, Sends}
 use Rattle.redn_forms.proofs.Tabling.{Touches, Leaves, Stores, touches, AllFlat, AllOf, OfSpace}
 use Rattle.redn_forms.proofs.Keeping.{truth_of, stored_none, flat_keeps}
 use Rattle.redn_forms.proofs.Events.{promises, turned_event, event_shape, stood}
+use Rattle.redn_homes.proofs.Segments.{nothing_told as told_none}
 
 -- an observation as a list
 told_then : (at : Space → Home) (o : Obs) → shown_then o [] ≡ told_by at o
 told_then at shows.Nothing = refl
-told_then at (shows.Set c v w) = refl
-told_then at (shows.Load c v t o w) = refl
-told_then at (shows.Look c t o w) = refl
-told_then at (shows.Store c t o w) = refl
-told_then at (shows.Reply c n ws) = refl
-told_then at (shows.Fault c t o) = refl
-told_then at (shows.Stale q i) = refl
-told_then at (shows.Undefined q i) = refl
-told_then at (shows.Refused q i) = refl
-told_then at (shows.Odd q i) = refl
-
-told_none : (at : Space → Home) (o : Obs) → told_by at o ≡ [] → o ≡ shows.Nothing
-told_none at shows.Nothing e = refl
-told_none at (shows.Set c v w) e = absurd (cc)
-told_none at (shows.Load c v t o w) e = absurd (cc)
-told_none at (shows.Look c t o w) e = absurd (cc)
-told_none at (shows.Store c t o w) e = absurd (cc)
-told_none at (shows.Reply c n ws) e = absurd (cc)
-told_none at (shows.Fault c t o) e = absurd (cc)
-told_none at (shows.Stale q i) e = absurd (cc)
-told_none at (shows.Undefined q i) e = absurd (cc)
-told_none at (shows.Refused q i) e = absurd (cc)
-told_none at (shows.Odd q i) e = absurd (cc)
+told_then at _ = refl
 
 told_one : (at : Space → Home) (o e : Obs) → told_by at o ≡ e ∷ [] → o ≡ e
 told_one at shows.Nothing e h = absurd (cc)
-told_one at (shows.Set c v w) e h = cc
-told_one at (shows.Load c v t o w) e h = cc
-told_one at (shows.Look c t o w) e h = cc
-told_one at (shows.Store c t o w) e h = cc
-told_one at (shows.Reply c n ws) e h = cc
-told_one at (shows.Fault c t o) e h = cc
-told_one at (shows.Stale q i) e h = cc
-told_one at (shows.Undefined q i) e h = cc
-told_one at (shows.Refused q i) e h = cc
-told_one at (shows.Odd q i) e h = cc
+told_one at _ e h = cc
 
 module _ (g : Together) (c : ℕ) (a : IsAmong g c) where
   abbrev f : Formed

@@ -1,11 +1,11 @@
 -- What a draft puts into variables is what its event tells.
-use Rattle.std.proofs.Common.{◌≡◌, ℕ, ◌+◌, ◌*◌, ◌/◌, ◌%◌, ◌<◌, ◌≤◌, ◌^◌, Bool, true, false, not, cond, ◌&&◌, ◌||◌, ◌==◌, List, [], ◌∷◌, ◌++◌, length, drop, refl, sym, ap, ◌∙◌, subst, arith, length-take, length-drop}
+use Rattle.std.proofs.Common.{◌≡◌, ℕ, ◌+◌, ◌/◌, ◌%◌, ◌<◌, ◌≤◌, ◌^◌, Bool, true, false, not, cond, ◌&&◌, ◌||◌, ◌==◌, List, [], ◌∷◌, ◌++◌, length, drop, refl, sym, ap, ◌∙◌, subst, arith, length-take, length-drop}
 use Rattle.std.specs.Prelude.{nat_le, slice_set}
 use Rattle.std.proofs.lemmas.Bool.{false≢true, true≢false, and_parts, leb-true, eqb-true}
 use Rattle.redn_words.specs.declared.types.Obs.{Obs}
 use Rattle.redn_words.specs.declared.types.Obs.TheVariants as shows
 use Rattle.redn_words.specs.declared.types.Kind.{Kind}
-use Rattle.redn_words.specs.declared.types.Kind.TheVariants.{Vars, Table, Code, Control, Message}
+use Rattle.redn_words.specs.declared.types.Kind.TheVariants.{Vars, Table, Control, Message}
 use Rattle.redn_words.specs.declared.types.Request.{Request}
 use Rattle.redn_words.specs.declared.types.Origin.{Origin}
 use Rattle.redn_words.specs.declared.types.Opcode.{Opcode}
@@ -14,7 +14,7 @@ use Rattle.redn_words.specs.Landings.{write_shows, write_to, read_shows, read_in
 use Rattle.redn_words.specs.Words.{word, spelled}
 use Rattle.redn_words.proofs.Numbers.{number-spelled, length-spelled}
 use Rattle.std.proofs.Math.Nat.{mod-lt}
-use Rattle.redn_kernel.specs.declared.types.Cell.TheVariants.{Var, Hidden, Argument, Num}
+use Rattle.redn_kernel.specs.declared.types.Cell.TheVariants.{Var}
 use Rattle.redn_segment.specs.declared.types.Space.{Space}
 use Rattle.redn_segment.specs.declared.types.Space.TheVariants as space
 use Rattle.redn_segment.specs.declared.types.Site.{Site}
@@ -26,8 +26,10 @@ use Rattle.redn_segment.proofs.Kept.{not_true}
 use Rattle.redn_graph.specs.Run.{GraphState}
 use Rattle.redn_image.specs.Faithful.{IsClean}
 use Rattle.redn_forms.proofs.States.{IsBehind}
-use Rattle.redn_forms.proofs.Shapes.{went_puts, went_events, past_none, fit, reach}
+use Rattle.redn_forms.proofs.Shapes.{went_puts, went_events, fit, reach}
 use Rattle.redn_forms.proofs.Tabling.{puts_are, fit_true, reach_true}
+use Rattle.redn_segment.proofs.Targets.{its_number as eighth}
+use Rattle.redn_segment.proofs.PutSides.{not_past as past_none}
 
 abbrev pub is_variable_space : Space → Bool
 is_variable_space (space.Cell (Var i)) = true
@@ -60,39 +62,21 @@ no_vars us vs events (shows.Load c v t o w) h is = absurd h
 no_vars us vs events (shows.Look c t o w) h is = subst NoVars (sym (went_events us vs (shows.Look c t o w ∷ []) events is)) (tt, tt)
 no_vars us vs events (shows.Store c t o w) h is = subst NoVars (sym (went_events us vs (shows.Store c t o w ∷ []) events is)) (tt, tt)
 no_vars us vs events (shows.Reply c n ws) h is = subst NoVars (sym (went_events us vs (shows.Reply c n ws ∷ []) events is)) (tt, tt)
-no_vars us vs events (shows.Fault c t o) h is = absurd (cc)
-no_vars us vs events (shows.Stale q i) h is = absurd (cc)
-no_vars us vs events (shows.Undefined q i) h is = absurd (cc)
-no_vars us vs events (shows.Refused q i) h is = absurd (cc)
-no_vars us vs events (shows.Odd q i) h is = absurd (cc)
+no_vars us vs events _ h is = absurd (cc)
 
 abbrev plain_kind : Kind → Bool
 plain_kind Vars = false
 plain_kind _ = true
 
 plain_space : (p : Space) → is_variable_space p ≡ false → plain_kind (kind_of p) ≡ true
-plain_space (space.Table t) e = refl
 plain_space (space.Cell (Var i)) e = absurd (true≢false e)
-plain_space (space.Cell (Hidden i)) e = refl
-plain_space (space.Cell (Argument i)) e = refl
-plain_space (space.Cell (Num n)) e = refl
-plain_space space.Reply e = refl
-plain_space space.Key e = refl
-plain_space (space.Scratch i) e = refl
-plain_space (space.Descriptor ring) e = refl
-plain_space (space.Slot q) e = refl
+plain_space (space.Cell _) e = refl
+plain_space _ e = refl
 
 hidden_space : (p : Space) → is_hidden (kind_of p) ≡ true → is_variable_space p ≡ false
-hidden_space (space.Table t) e = refl
 hidden_space (space.Cell (Var i)) e = absurd (false≢true e)
-hidden_space (space.Cell (Hidden i)) e = refl
-hidden_space (space.Cell (Argument i)) e = refl
-hidden_space (space.Cell (Num n)) e = refl
-hidden_space space.Reply e = refl
-hidden_space space.Key e = refl
-hidden_space (space.Scratch i) e = refl
-hidden_space (space.Descriptor ring) e = refl
-hidden_space (space.Slot q) e = refl
+hidden_space (space.Cell _) e = refl
+hidden_space _ e = refl
 
 module _ (o : Origin) (r : Request) (w : ℕ) where
   when_plain : (b : Bool) (e : Obs) → NoVar e → NoVar (when b e o)
@@ -102,41 +86,29 @@ module _ (o : Origin) (r : Request) (w : ℕ) where
   to_plain : (k : Kind) → plain_kind k ≡ true → NoVar (write_to o r w k)
   to_plain Vars h = absurd (false≢true h)
   to_plain (Table t) h = when_plain (r.length == 8) (shows.Store o.chain t r.remote w) tt
-  to_plain Code h = tt
-  to_plain Control h = tt
-  to_plain Message h = tt
+  to_plain _ h = tt
 
   write_plain : (j k : Kind) → plain_kind k ≡ true → NoVar (write_shows o r w j k)
   write_plain (Table t) k h = tt
-  write_plain Vars k h = to_plain k h
-  write_plain Code k h = to_plain k h
-  write_plain Control k h = to_plain k h
-  write_plain Message k h = to_plain k h
+  write_plain _ k h = to_plain k h
 
   hidden_plain : (k : Kind) → NoVar (read_hidden o r w k)
   hidden_plain (Table t) = when_plain (r.length == 8) (shows.Look o.chain t r.remote w) tt
-  hidden_plain Vars = tt
-  hidden_plain Code = tt
-  hidden_plain Control = tt
-  hidden_plain Message = tt
+  hidden_plain _ = tt
 
   read_plain : (j k : Kind) → plain_kind j ≡ true → NoVar (read_shows o r w j k)
   read_plain Vars k h = absurd (false≢true h)
-  read_plain Code k h = hidden_plain k
-  read_plain Control k h = hidden_plain k
   read_plain (Table t) k h = tt
   read_plain Message k h = tt
+  read_plain _ k h = hidden_plain k
 
   send_plain : (bytes : List ℕ) (k : Kind) → NoVar (send_shows o r bytes k)
-  send_plain bytes Vars = tt
-  send_plain bytes (Table t) = tt
-  send_plain bytes Code = tt
-  send_plain bytes Message = tt
   send_plain bytes Control = by_size (r.length % 8 == 0 && nat_le r.length 64) (reply_words (r.length / 8) bytes)
     where
       by_size : (b : Bool) (ws : List ℕ) → NoVar (when b (shows.Reply o.chain (r.length / 8) ws) o)
       by_size true ws = tt
       by_size false ws = tt
+  send_plain bytes _ = tt
 
   -- a word that goes to a variable
   set_went : (j : Kind) (us vs : List Put) (events : List Obs) → with_event us (write_shows o r w j Vars) ≡ Went vs events → (r.length ≡ 8) × (events ≡ shows.Set o.chain (r.remote / 8) w ∷ [])
@@ -148,10 +120,7 @@ module _ (o : Origin) (r : Request) (w : ℕ) where
 
       by_kind : (k : Kind) → with_event us (write_shows o r w k Vars) ≡ Went vs events → (r.length ≡ 8) × (events ≡ shows.Set o.chain (r.remote / 8) w ∷ [])
       by_kind (Table i) q = absurd (cc)
-      by_kind Vars q = by_size (r.length == 8 && r.remote % 8 == 0) refl q
-      by_kind Code q = by_size (r.length == 8 && r.remote % 8 == 0) refl q
-      by_kind Control q = by_size (r.length == 8 && r.remote % 8 == 0) refl q
-      by_kind Message q = by_size (r.length == 8 && r.remote % 8 == 0) refl q
+      by_kind _ q = by_size (r.length == 8 && r.remote % 8 == 0) refl q
 
   load_went : (k : Kind) (us vs : List Put) (events : List Obs) → with_event us (read_into_vars o r w k) ≡ Went vs events → (r.length ≡ 8) × ((e : Obs) × (events ≡ e ∷ []) × IsSet (r.local / 8) w e)
   load_went k us vs events e = by_kind k e
@@ -166,17 +135,11 @@ module _ (o : Origin) (r : Request) (w : ℕ) where
 
       by_kind : (k : Kind) → with_event us (read_into_vars o r w k) ≡ Went vs events → (r.length ≡ 8) × ((e : Obs) × (events ≡ e ∷ []) × IsSet (r.local / 8) w e)
       by_kind (Table t) q = by_load t (r.length == 8 && r.local % 8 == 0) refl q
-      by_kind Vars q = by_set (r.length == 8 && r.local % 8 == 0) refl q
-      by_kind Code q = by_set (r.length == 8 && r.local % 8 == 0) refl q
-      by_kind Control q = by_set (r.length == 8 && r.local % 8 == 0) refl q
-      by_kind Message q = by_set (r.length == 8 && r.local % 8 == 0) refl q
+      by_kind _ q = by_set (r.length == 8 && r.local % 8 == 0) refl q
 
 or_second : (b c : Bool) → b ≡ false → b || c ≡ true → c ≡ true
 or_second true c e h = absurd (true≢false e)
 or_second false c e h = h
-
-eighth : (i : ℕ) → (8 * i + 0) / 8 ≡ i
-eighth i = omega arith
 
 module _ (chain : ℕ) (s : Bytes) (slot : List ℕ) (d : Draft) (us : List Put) (events : List Obs) where
   pub data Varies : Type 0 where
@@ -263,15 +226,7 @@ module _ (chain : ℕ) (s : Bytes) (slot : List ℕ) (d : Draft) (us : List Put)
         set_as : (e : Obs) {a b k l : ℕ} → a ≡ k → b ≡ l → IsSet a b e → IsSet k l e
         set_as (shows.Set c v w) p q h = (h.0 ∙ p, h.1 ∙ q)
         set_as (shows.Load c v t o w) p q h = (h.0 ∙ p, h.1 ∙ q)
-        set_as shows.Nothing p q h = absurd h
-        set_as (shows.Look c t o w) p q h = absurd h
-        set_as (shows.Store c t o w) p q h = absurd h
-        set_as (shows.Reply c n ws) p q h = absurd h
-        set_as (shows.Fault c t o) p q h = absurd h
-        set_as (shows.Stale z y) p q h = absurd h
-        set_as (shows.Undefined z y) p q h = absurd h
-        set_as (shows.Refused z y) p q h = absurd h
-        set_as (shows.Odd z y) p q h = absurd h
+        set_as _ p q h = absurd h
 
     swap_plain : (b : Bool) (rest : List Put) → is_variable_space (remote_space d) ≡ false → VarFlat rest → VarFlat (swap slot d b ++ rest)
     swap_plain true rest e h = (e, h)
@@ -288,10 +243,7 @@ module _ (chain : ℕ) (s : Bytes) (slot : List ℕ) (d : Draft) (us : List Put)
 
     add_plain : (o : Origin) (r : Request) (w : ℕ) (k : Kind) → plain_kind k ≡ true → NoVar (add_to o r w k)
     add_plain o r w Vars h = absurd (false≢true h)
-    add_plain o r w (Table t) h = tt
-    add_plain o r w Code h = tt
-    add_plain o r w Control h = tt
-    add_plain o r w Message h = tt
+    add_plain o r w _ h = tt
 
     abbrev summed : ℕ
     summed = sum_of (request_of slot d) (word (remote_bytes s slot d 8) 0)
@@ -343,15 +295,8 @@ module _ (chain : ℕ) (s : Bytes) (slot : List ℕ) (d : Draft) (us : List Put)
 
     by_site : (op : Opcode) (x y : Site) → y ≡ x → ((i : ℕ) → y ≡ site.Cell (Var i) → acts chain s slot d op ≡ Went us events → Varies) → (is_variable_space (space_of y) ≡ false → acts chain s slot d op ≡ Went us events → Varies) → acts chain s slot d op ≡ Went us events → Varies
     by_site op (site.Cell (Var i)) y is var flat e = var i is e
-    by_site op (site.Cell (Hidden i)) y is var flat e = flat (ap (λ (x : Site). is_variable_space (space_of x)) is) e
-    by_site op (site.Cell (Argument i)) y is var flat e = flat (ap (λ (x : Site). is_variable_space (space_of x)) is) e
-    by_site op (site.Cell (Num n)) y is var flat e = flat (ap (λ (x : Site). is_variable_space (space_of x)) is) e
-    by_site op (site.ReplyWord i) y is var flat e = flat (ap (λ (x : Site). is_variable_space (space_of x)) is) e
-    by_site op site.Key y is var flat e = flat (ap (λ (x : Site). is_variable_space (space_of x)) is) e
-    by_site op (site.Scratch i) y is var flat e = flat (ap (λ (x : Site). is_variable_space (space_of x)) is) e
-    by_site op (site.Descriptor i) y is var flat e = flat (ap (λ (x : Site). is_variable_space (space_of x)) is) e
-    by_site op (site.Field q) y is var flat e = flat (ap (λ (x : Site). is_variable_space (space_of x)) is) e
-    by_site op (site.Table t o) y is var flat e = flat (ap (λ (x : Site). is_variable_space (space_of x)) is) e
+    by_site op (site.Cell _) y is var flat e = flat (ap (λ (x : Site). is_variable_space (space_of x)) is) e
+    by_site op _ y is var flat e = flat (ap (λ (x : Site). is_variable_space (space_of x)) is) e
 
     pub varies : (op : Opcode) → (op ≡ Read → is_table d.remote ≡ true) → acts chain s slot d op ≡ Went us events → Varies
     unfolding acts
@@ -364,9 +309,7 @@ module _ (chain : ℕ) (s : Bytes) (slot : List ℕ) (d : Draft) (us : List Put)
     varies Send g e =
         let goes = fit (is_length d.length && (not (is_table d.local) && inside d.local d.local_byte d.length)) _ us events e in
         Keeps (subst VarFlat (sym (puts_are [] us _ events goes)) tt) (no_vars [] us events _ (send_plain (origin chain) (request_of slot d) 0 (local_bytes s d d.length) (kind_of (local_space d))) goes)
-    varies Wait g e = absurd (cc)
-    varies Enable g e = absurd (cc)
-    varies (Undefined n) g e = absurd (cc)
+    varies _ g e = absurd (cc)
 
 -- a draft that shows nothing puts nothing into a variable
 module _ (chain : ℕ) (s : Bytes) (slot : List ℕ) (d : Draft) (us : List Put) (near : is_table d.local ≡ false → inside d.local d.local_byte 8 ≡ true → length (local_bytes s d 8) ≡ 8) where
@@ -406,20 +349,9 @@ vars_kept (shows.Look c t o w) x z clean none h = h
 vars_kept (shows.Store c t o w) x z clean none h = h
 vars_kept (shows.Reply c n ws) x z clean none h = h.1
 vars_kept (shows.Fault c t o) x z clean none h = ap (λ (y : GraphState). y.cells.vars) h
-vars_kept (shows.Stale q i) x z clean none h = absurd clean
-vars_kept (shows.Undefined q i) x z clean none h = absurd clean
-vars_kept (shows.Refused q i) x z clean none h = absurd clean
-vars_kept (shows.Odd q i) x z clean none h = absurd clean
+vars_kept _ x z clean none h = absurd clean
 
 pub vars_set : (i w : ℕ) (o : Obs) (x z : GraphState) → IsSet i w o → IsBehind o x z → z.cells.vars ≡ slice_set x.cells.vars i w
 vars_set i w (shows.Set c v u) x z set h = h ∙ ap (λ (k : ℕ). slice_set x.cells.vars k u) set.0 ∙ ap (slice_set x.cells.vars i) set.1
 vars_set i w (shows.Load c v t o u) x z set h = h ∙ ap (λ (k : ℕ). slice_set x.cells.vars k u) set.0 ∙ ap (slice_set x.cells.vars i) set.1
-vars_set i w shows.Nothing x z set h = absurd set
-vars_set i w (shows.Look c t o u) x z set h = absurd set
-vars_set i w (shows.Store c t o u) x z set h = absurd set
-vars_set i w (shows.Reply c n ws) x z set h = absurd set
-vars_set i w (shows.Fault c t o) x z set h = absurd set
-vars_set i w (shows.Stale q k) x z set h = absurd set
-vars_set i w (shows.Undefined q k) x z set h = absurd set
-vars_set i w (shows.Refused q k) x z set h = absurd set
-vars_set i w (shows.Odd q k) x z set h = absurd set
+vars_set i w _ x z set h = absurd set

@@ -35,12 +35,14 @@ module _ (g : Together) (c : ℕ) where
     -- it names its variables, and the tables that it names are those that are shared
     pub variables : (i : ℕ) → i < length b.vars → f.layout.mine (space.Cell (Var i)) ≡ true
     pub shelves : LieApart g.shelves f.layout.size
-    pub tables : (k : ℕ) → f.layout.mine (space.Table k) ≡ true → (k < g.shelves.many) × (base_of f.layout.home (space.Table k) ≡ g.shelves.at k) × (room_of f.layout.home (space.Table k) ≡ g.shelves.len k)
+    pub tables : (k : ℕ) → f.layout.mine (space.Table k) ≡ true
+        → (k < g.shelves.many) × (base_of f.layout.home (space.Table k) ≡ g.shelves.at k) × (room_of f.layout.home (space.Table k) ≡ g.shelves.len k)
     -- how it begins
     pub apart : (d p : ℕ) → d ≢ c → b.mine p ≡ true → domain_holds g.begin.regions d p ≡ false
     pub entry : IsEntry world c
     pub place : (bytes : List ℕ) → message world c ≡ Some bytes → MailPlace world c bytes
-    pub prepared : (bytes m : List ℕ) → message world c ≡ Some bytes → IsBytes m → SameMine world c m (expected world c true) → Ready (plan f) (its_meaning f) (first_point b) m
+    pub prepared : (bytes m : List ℕ) → message world c ≡ Some bytes → IsBytes m → SameMine world c m (expected world c true)
+        → Ready (plan f) (its_meaning f) (first_point b) m
     pub first_vars : (came : Bool) → HasVars b (graph_start f.course.graph b.vars) (expected world c came)
     pub enables : ((gate_of b.entry 1).first ≡ (first_point b).ring) × ((gate_of b.entry 1).second ≡ ((plan f).ring (first_point b).ring).first 1)
     pub entry_begins : (u : Queue) × (slice_get g.begin.queues b.entry.queue ≡ Some u) × GateQueue b.entry u 0

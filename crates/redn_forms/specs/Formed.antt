@@ -92,9 +92,12 @@ module _ (f : Formed) where
     pub number : f.course.number ≡ f.layout.domain
     pub blocks : (r : ℕ) → is_ring plan r ≡ true → IsBlockRing r
     pub allows : Allows plan f.takes Ghost f.tells f.fails f.enters
-    pub tells_well : (r j : ℕ) (u : Bytes) (y : Ghost) (events : List Obs) (z : Ghost) → is_ring plan r ≡ true → j < (plan.ring r).segments → f.tells r j u y events z → TellsWell r j u y events z
-    pub fails_well : (r j : ℕ) (u : Bytes) (y : Ghost) (events : List Obs) → is_ring plan r ≡ true → j < (plan.ring r).segments → f.fails r j u y events → FailsWell r j u y events
-    pub turned : (r j k : ℕ) (d : Draft) (op : Opcode) → is_ring plan r ≡ true → j < (plan.ring r).segments → IsOwn plan r j k d → f.takes r j k op → Turned d op
+    pub tells_well : (r j : ℕ) (u : Bytes) (y : Ghost) (events : List Obs) (z : Ghost) → is_ring plan r ≡ true → j < (plan.ring r).segments
+        → f.tells r j u y events z → TellsWell r j u y events z
+    pub fails_well : (r j : ℕ) (u : Bytes) (y : Ghost) (events : List Obs) → is_ring plan r ≡ true → j < (plan.ring r).segments
+        → f.fails r j u y events → FailsWell r j u y events
+    pub turned : (r j k : ℕ) (d : Draft) (op : Opcode) → is_ring plan r ≡ true → j < (plan.ring r).segments → IsOwn plan r j k d → f.takes r j k op
+        → Turned d op
 
   -- whether the event of a window is a SEND
   abbrev pub sends_at : Point → Bool

@@ -4,7 +4,7 @@ use Rattle.redn_words.specs.declared.types.Obs.{Obs}
 use Rattle.redn_words.specs.declared.types.Obs.TheVariants as shows
 use Rattle.redn_words.specs.Landings.{Change}
 use Rattle.redn_words.specs.Words.{with_bytes_at, spelled}
-use Rattle.redn_words.proofs.Bytes.{byte}
+use Rattle.redn_words.specs.Bytes.{byte}
 use Rattle.redn_kernel.specs.Source.{has_word, with_word_in}
 use Rattle.redn_graph.specs.declared.types.Block.{Block}
 use Rattle.redn_graph.specs.declared.types.Graph.{Graph}
@@ -48,7 +48,8 @@ StepsShow = (c : Course) (x : GraphState) (e : Obs) (z : GraphState) → Tells c
 -- memory goes on having the tables, where no byte of them changes; and where a word of one is stored, it has the tables with that word
 pub record TablesStay (s : Shelves) (t : Contents) (m : List ℕ) : Type 0 where
   pub same : (n : List ℕ) → length n ≡ length m → ((p : ℕ) → is_shared s p ≡ true → byte n p ≡ byte m p) → HasTables s t n
-  pub stored : (k o v : ℕ) → LieApart s (length m) → k < s.many → has_word t k o ≡ true → HasTables s (with_word_in t k o v) (with_bytes_at m (s.at k + o) (spelled 8 v))
+  pub stored : (k o v : ℕ) → LieApart s (length m) → k < s.many → has_word t k o ≡ true
+      → HasTables s (with_word_in t k o v) (with_bytes_at m (s.at k + o) (spelled 8 v))
 
 abbrev pub ShelvesHold : Type 0
 ShelvesHold = (s : Shelves) (t : Contents) (m : List ℕ) → HasTables s t m → TablesStay s t m

@@ -49,8 +49,10 @@ module _ (p : Program) (i : Image) (gs : List Graph) (messages : Messages) (g : 
     pub begin : g.begin ≡ start_of i messages
     pub most : g.most ≡ 2 ^ 62
     pub among : (c : ℕ) → c < length g.begin.chains → IsAmong g c
-    pub chains : (c : ℕ) (chain : ChainInit) (graph : Graph) → slice_get p.chains c ≡ Some chain → slice_get gs c ≡ Some graph → IsChain (g.chain c) c chain graph (words_in chain (message_at messages c))
-    pub rows : (q : ℕ) (row : QueueRow) → row_at g.begin.queues q ≡ Some row → (row.domain < length g.begin.chains) × ((q ≡ (g.chain row.domain).entry.queue) ⊎ (is_ring (plan (g.chain row.domain).formed) q ≡ true))
+    pub chains : (c : ℕ) (chain : ChainInit) (graph : Graph) → slice_get p.chains c ≡ Some chain → slice_get gs c ≡ Some graph
+        → IsChain (g.chain c) c chain graph (words_in chain (message_at messages c))
+    pub rows : (q : ℕ) (row : QueueRow) → row_at g.begin.queues q ≡ Some row
+        → (row.domain < length g.begin.chains) × ((q ≡ (g.chain row.domain).entry.queue) ⊎ (is_ring (plan (g.chain row.domain).formed) q ≡ true))
     pub heads : (q : ℕ) (u : Queue) → slice_get g.begin.queues q ≡ Some u → u.head ≡ 0
     pub ends : EndsBy (length g.begin.memory) g.begin.regions
     pub sound : IsBytes g.begin.memory

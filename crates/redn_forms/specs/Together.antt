@@ -65,7 +65,9 @@ module _ (b : Begun) where
   -- each variable is the word at its place
   pub record HasVars (y : GraphState) (m : List ℕ) : Type 0 where
     pub many : length y.cells.vars ≡ length b.vars
-    pub each : (i : ℕ) → i < length b.vars → (bytes_at m (base_of b.formed.layout.home (space.Cell (Var i))) 8 ≡ spelled 8 (slice_index y.cells.vars i)) × (slice_index y.cells.vars i < 2 ^ 64)
+    pub each : (i : ℕ) → i < length b.vars
+        → (bytes_at m (base_of b.formed.layout.home (space.Cell (Var i))) 8 ≡ spelled 8 (slice_index y.cells.vars i))
+        × (slice_index y.cells.vars i < 2 ^ 64)
 
   -- the windows of its rings, where memory has the variables too
   abbrev pub script_at : Script

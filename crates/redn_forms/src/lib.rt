@@ -1,5 +1,6 @@
-//! The rings of a chain as the compiled form of its graph: what their windows cost, and how they go
-//! with the graph's steps.
+//! The rings of a chain as the compiled form of its graph.
+//! The law: the rings of an image's chains, side by side, run as the graphs do. What they show is what
+//! the graphs' steps show, and their windows cost at most what these steps bring.
 #![tactic(auto)]
 
 mod laws;

@@ -3,7 +3,7 @@ use Rattle.std.proofs.Common.{◌≡◌, inl, inr, ℕ, ◌+◌, ◌<◌, ◌≤
 use Rattle.std.specs.Prelude.{nat_le, nat_lt, min, max}
 use Rattle.std.proofs.lemmas.Bool.{false≢true, false_from_ne_true, and_parts, and_from, lt-ltb, leb-true, ltb-true, or_left, or_right}
 use Rattle.redn_words.specs.declared.types.Opcode.{Opcode}
-use Rattle.redn_words.specs.declared.types.Opcode.TheVariants.{Noop, Write, Read, Cas, Add, Send, Wait, Enable, Undefined}
+use Rattle.redn_words.specs.declared.types.Opcode.TheVariants.{Write, Read, Cas, Add, Send}
 use Rattle.redn_homes.proofs.Reading.{ReadsSame, SameReach, acts_same, seen_same}
 use Rattle.redn_homes.specs.Segments.{is_table_space}
 use Rattle.redn_segment.proofs.Pieces.{with_put_here, with_put_there}
@@ -14,7 +14,8 @@ use Rattle.redn_segment.specs.Footprints.{both_sides, from, meet, is_free, draft
 use Rattle.redn_segment.specs.Orders.{Follows}
 use Rattle.redn_segment.specs.Plain.{Bytes, View, seeing, Put, with_put, placed, after, acts, step, opcode_in, local_space, remote_space, local_at, remote_at, local_bytes, remote_bytes}
 use Rattle.redn_segment.specs.Sites.{space_of, start_of, is_table, same_space}
-use Rattle.redn_words.proofs.Bytes.{covers, byte_put, same_range}
+use Rattle.redn_words.proofs.Bytes.{byte_put, same_range}
+use Rattle.redn_words.specs.Bytes.{covers}
 use Rattle.redn_words.proofs.Places.{length-with_bytes_at}
 use Rattle.redn_words.specs.Landings.{change}
 use Rattle.redn_words.specs.Words.{bytes_at, with_bytes_at}
@@ -134,15 +135,12 @@ module _ (c d : Draft) (free : drafts_free c d ≡ true) where
     reach t = length_puts us s (remote_space d) fit
 
     reads_same : (op : Opcode) → Follows d op → ReadsSame (placed s us) s slot d op
-    reads_same Noop f = tt
     reads_same Write f = (local_read d.length false (write_local d f), reach)
     reads_same Read f = (remote_read d.length false (read_remote d f), reach)
     reads_same Cas f = remote_read 8 true (cas_remote d f)
     reads_same Add f = remote_read 8 true (add_remote d f)
     reads_same Send f = local_read d.length false (send_local d f)
-    reads_same Wait f = tt
-    reads_same Enable f = tt
-    reads_same (Undefined n) f = tt
+    reads_same _ f = tt
 
     -- a draft does after another, of which it is free and which spares its slot, what it does before
     pub step_apart : (chain : View) (at : SlotRef) → s (space.Slot at) ≡ slot → placed s us (space.Slot at) ≡ slot → Follows d (opcode_in slot) → step chain at d (placed s us) ≡ step chain at d s

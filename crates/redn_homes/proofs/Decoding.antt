@@ -6,7 +6,7 @@ use Rattle.redn_words.specs.declared.types.Region.{Region}
 use Rattle.redn_words.specs.declared.types.Request.{Request}
 use Rattle.redn_words.specs.declared.types.Origin.{Origin}
 use Rattle.redn_words.specs.declared.types.Opcode.{Opcode}
-use Rattle.redn_words.specs.declared.types.Opcode.TheVariants.{Noop, Write, Read, Cas, Add, Send, Wait, Enable, Undefined}
+use Rattle.redn_words.specs.declared.types.Opcode.TheVariants.{Noop, Write, Read, Cas, Add, Send}
 use Rattle.redn_homes.proofs.Placing.{lands_write, lands_read, lands_cas, lands_add, lands_send, lands_noop}
 use Rattle.redn_homes.specs.Homes.{HasTarget, LandsAs, seen_in, reads_by}
 use Rattle.redn_homes.specs.Requested.{requested, remote_key, remote_offset, IsReady, SparesFixed}
@@ -18,17 +18,14 @@ use Rattle.redn_segment.specs.Plain.{opcode_in, remote_in, remote_space, acts}
 use Rattle.redn_segment.specs.Primed.{covers}
 use Rattle.redn_segment.specs.Sites.{start_of, is_table}
 use Rattle.redn_words.proofs.Numbers.{number_same}
-use Rattle.redn_words.proofs.Slots.{IsNarrow, decoded-encoded, length-encoded}
+use Rattle.redn_words.proofs.Slots.{decoded-encoded, length-encoded}
+use Rattle.redn_words.specs.Slots.{IsNarrow}
 use Rattle.redn_words.specs.Landings.{landing, lands}
-use Rattle.redn_words.specs.Requests.{decoded, encoded, opcode_of}
+use Rattle.redn_words.specs.Requests.{decoded, encoded}
 use Rattle.redn_words.specs.Words.{number}
 use Rattle.redn_segment.specs.declared.types.Space.{Space}
 use Rattle.redn_segment.specs.declared.types.Draft.{Draft}
-
--- opcodes are read in the same place
-pub opcode_read : (slot : List ℕ) → opcode_of (decoded slot) ≡ opcode_in slot
-unfolding decoded
-opcode_read slot = refl
+use Rattle.redn_segment.proofs.Touching.{opcode_read}
 
 covered : (at len i : ℕ) → at ≤ i → i < at + len → covers at len i ≡ true
 covered at len i low high = and_from (nat_le at i) (nat_lt i (at + len)) (le-leb at i low) (lt-ltb i (at + len) high)
@@ -77,25 +74,11 @@ module _ (home : Space → Home) (d : Draft) (flags : ℕ) (written : ℕ → Bo
 
   key_is : (op : Opcode) → is_send op ≡ false → remote_key home d op ≡ (home (remote_space d)).region.key
   key_is Send e = absurd (false≢true (sym e))
-  key_is Noop e = refl
-  key_is Write e = refl
-  key_is Read e = refl
-  key_is Cas e = refl
-  key_is Add e = refl
-  key_is Wait e = refl
-  key_is Enable e = refl
-  key_is (Undefined n) e = refl
+  key_is _ e = refl
 
   offset_is : (op : Opcode) → is_send op ≡ false → remote_offset home d op ≡ (home (remote_space d)).offset + (start_of d.remote + d.remote_byte)
   offset_is Send e = absurd (false≢true (sym e))
-  offset_is Noop e = refl
-  offset_is Write e = refl
-  offset_is Read e = refl
-  offset_is Cas e = refl
-  offset_is Add e = refl
-  offset_is Wait e = refl
-  offset_is Enable e = refl
-  offset_is (Undefined n) e = refl
+  offset_is _ e = refl
 
   -- a table begins where its region does
   pub ready_remote : is_send d.op ≡ false → (is_table d.remote ≡ true → (home (remote_space d)).offset ≡ 0) → HasTarget home (decoded slot) d slot
@@ -120,9 +103,7 @@ module _ (home : Space → Home) (regions : List Region) (o : Origin) (m : List 
   by_opcode Cas h = lands_cas home regions o m d slot (decoded slot) h.from h.local_home (h.to refl) (h.remote_home refl) h.granted
   by_opcode Add h = lands_add home regions o m d slot (decoded slot) h.from h.local_home (h.to refl) (h.remote_home refl) h.granted
   by_opcode Send h = lands_send home regions o m d slot (decoded slot) h.from h.local_home
-  by_opcode Wait h = tt
-  by_opcode Enable h = tt
-  by_opcode (Undefined n) h = tt
+  by_opcode _ h = tt
 
   -- a placed draft lands as its plain step says
   pub lands_placed : CanLand home regions o.chain (length m) d slot (opcode_in slot) → LandsAs home (reads_by home d slot (opcode_in slot)) (acts o.chain (seen_in home m) slot d (opcode_in slot)) (landing regions o m (decoded slot))

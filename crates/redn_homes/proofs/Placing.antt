@@ -45,12 +45,7 @@ one_goes o a l go e = rw e refl
 
 table_there : (x : Site) → is_table x ≡ true → (t : ℕ) × (space_of x ≡ space.Table t)
 table_there (site.Table t n) e = (t, refl)
-table_there (site.Cell c) e = absurd (false≢true e)
-table_there (site.ReplyWord i) e = absurd (false≢true e)
-table_there site.Key e = absurd (false≢true e)
-table_there (site.Scratch i) e = absurd (false≢true e)
-table_there (site.Descriptor i) e = absurd (false≢true e)
-table_there (site.Field f) e = absurd (false≢true e)
+table_there _ e = absurd (false≢true e)
 
 -- for kinds with told offsets an event tells the real one
 told_offset : (p : Space) (offset at real : ℕ) → IsTold p offset → real ≡ offset + at → same_offset (kind_of p) (offset_of p at) real

@@ -41,7 +41,6 @@ module _ (chain : ℕ) (s t : Bytes) (slot : List ℕ) (d : Draft) where
 
   pub acts_same : (op : Opcode) → ReadsSame s t slot d op → acts chain s slot d op ≡ acts chain t slot d op
   unfolding acts
-  acts_same Noop h = refl
   acts_same Write h =
       let reach : reaches s slot d d.length ≡ reaches t slot d d.length = reach_same d.length h.1 in
       ap (λ (b : List ℕ). cond (not (fits d d.length)) Bad (cond (not (reaches s slot d d.length)) (past_table chain slot d (remote_space d)) (with_event (to_remote slot d b ∷ []) (write_shows (origin chain) (request_of slot d) (word b 0) (kind_of (local_space d)) (kind_of (remote_space d)))))) h.0 ∙ ap (λ (q : Bool). cond (not (fits d d.length)) Bad (cond (not q) (past_table chain slot d (remote_space d)) (with_event (to_remote slot d (local_bytes t d d.length) ∷ []) (write_shows (origin chain) (request_of slot d) (word (local_bytes t d d.length) 0) (kind_of (local_space d)) (kind_of (remote_space d)))))) reach
@@ -54,43 +53,28 @@ module _ (chain : ℕ) (s t : Bytes) (slot : List ℕ) (d : Draft) where
       ap (λ (b : List ℕ). cond (not (fits d 8 && is_atomic d)) Bad (with_event (to_remote slot d (spelled 8 (sum_of (request_of slot d) (word b 0))) ∷ to_local d (spelled 8 (word b 0)) ∷ []) (add_shows (origin chain) (request_of slot d) (sum_of (request_of slot d) (word b 0)) (kind_of (local_space d)) (kind_of (remote_space d))))) h
   acts_same Send h =
       ap (λ (b : List ℕ). cond (not (is_length d.length && (not (is_table d.local) && inside d.local d.local_byte d.length))) Bad (with_event [] (send_shows (origin chain) (request_of slot d) b (kind_of (local_space d))))) h
-  acts_same Wait h = refl
-  acts_same Enable h = refl
-  acts_same (Undefined n) h = refl
+  acts_same _ h = refl
 
 -- with the tables that it sees in place of its own it reads the same too
 module _ (tables : ℕ → List ℕ) (s t : Bytes) (slot : List ℕ) (d : Draft) where
   seen_part : (p : Space) (at n : ℕ) → bytes_at (s p) at n ≡ bytes_at (t p) at n → bytes_at (seeing tables s p) at n ≡ bytes_at (seeing tables t p) at n
   seen_part (space.Table i) at n h = refl
-  seen_part (space.Slot q) at n h = h
-  seen_part (space.Cell c) at n h = h
-  seen_part space.Reply at n h = h
-  seen_part space.Key at n h = h
-  seen_part (space.Scratch i) at n h = h
-  seen_part (space.Descriptor i) at n h = h
+  seen_part _ at n h = h
 
   seen_length : (p : Space) → length (s p) ≡ length (t p) → length (seeing tables s p) ≡ length (seeing tables t p)
   seen_length (space.Table i) h = refl
-  seen_length (space.Slot q) h = h
-  seen_length (space.Cell c) h = h
-  seen_length space.Reply h = h
-  seen_length space.Key h = h
-  seen_length (space.Scratch i) h = h
-  seen_length (space.Descriptor i) h = h
+  seen_length _ h = h
 
   seen_reach : SameReach s t d → SameReach (seeing tables s) (seeing tables t) d
   seen_reach h table = seen_length (remote_space d) (h table)
 
   pub seen_same : (op : Opcode) → ReadsSame s t slot d op → ReadsSame (seeing tables s) (seeing tables t) slot d op
-  seen_same Noop h = tt
   seen_same Write h = (seen_part (local_space d) (local_at d) d.length h.0, seen_reach h.1)
   seen_same Read h = (seen_part (remote_space d) (remote_at slot d) d.length h.0, seen_reach h.1)
   seen_same Cas h = seen_part (remote_space d) (remote_at slot d) 8 h
   seen_same Add h = seen_part (remote_space d) (remote_at slot d) 8 h
   seen_same Send h = seen_part (local_space d) (local_at d) d.length h
-  seen_same Wait h = tt
-  seen_same Enable h = tt
-  seen_same (Undefined n) h = tt
+  seen_same _ h = tt
 
 module _ (home : Space → Home) (mine : Space → Bool) (chain : ℕ) (s : Bytes) (slot : List ℕ) (d : Draft) (us : List Put) (events : List Obs) (local_mine : mine (local_space d) ≡ true) (sized : is_table d.remote ≡ true → length (s (remote_space d)) ≡ room_of home (remote_space d)) where
   remote_room : (len : ℕ) → 0 < len → (is_table d.remote || inside d.remote d.remote_byte len) ≡ true → reaches s slot d len ≡ true → remote_at slot d + len ≤ room_of home (remote_space d)

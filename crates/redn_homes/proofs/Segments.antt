@@ -1,8 +1,7 @@
 -- The window of a placed segment is orderly, where each of its drafts goes through on the memory of the opening and their footprints lie apart.
 use Rattle.std.proofs.Common.{◌≡◌, ◌≢◌, ℕ, zero, suc, ◌+◌, ◌-◌, ◌*◌, ◌%◌, ◌<◌, ◌≤◌, ◌⊎◌, inl, inr, Bool, true, false, not, ◌&&◌, ◌||◌, ◌==◌, List, [], ◌∷◌, length, get_or, refl, sym, ap, ◌∙◌, subst, arith}
 use Rattle.std.specs.Prelude.{nat_le, nat_lt, slice_get, Some}
-use Rattle.std.specs.List.{list_all}
-use Rattle.std.proofs.lemmas.Bool.{false≢true, and_parts, and_from, or_left, or_right, le-leb, lt-ltb, eq-eqb, cases_lt, false_from_ne_true}
+use Rattle.std.proofs.lemmas.Bool.{false≢true, and_from, or_left, or_right, le-leb, lt-ltb, eq-eqb, cases_lt, false_from_ne_true}
 use Rattle.std.proofs.lemmas.Nat.{mod-mul-add}
 use Rattle.std.proofs.lemmas.List.{get_or-append_right, get_or_append_left}
 use Rattle.redn_words.specs.declared.types.Region.{Region}
@@ -11,19 +10,19 @@ use Rattle.redn_words.specs.declared.types.Obs.{Obs}
 use Rattle.redn_words.specs.declared.types.Obs.TheVariants as shows
 use Rattle.redn_words.specs.declared.types.Opcode.{Opcode}
 use Rattle.redn_words.specs.declared.types.Opcode.TheVariants.{Noop, Write, Read, Cas, Add, Send, Wait, Enable, Undefined}
-use Rattle.redn_homes.proofs.Decoding.{lands_placed, opcode_read}
-use Rattle.redn_homes.proofs.Touching.{In, one_space, free_apart, InSide, writes_in, reads_in}
+use Rattle.redn_homes.proofs.Decoding.{lands_placed}
+use Rattle.redn_homes.proofs.Touching.{InSide, writes_in, reads_in}
 use Rattle.redn_homes.specs.Homes.{LandsAs, LandsWell, seen_in, reads_by, told_by}
 use Rattle.redn_homes.specs.Segments.{CanLand, IsGood, slot_space, copies, Lying, Part, segment_window, slot_bytes, IsApart, GoesThrough, is_table_space}
 use Rattle.redn_segment.proofs.SameSpace.{same_space_is, table_space}
 use Rattle.redn_segment.proofs.Sides.{IsSide, side_at, side_test}
-use Rattle.redn_segment.specs.Footprints.{local_by, remote_by, both_sides, ends_inside, is_free, drafts_free, all_free, among, spares}
+use Rattle.redn_segment.specs.Footprints.{local_by, remote_by, both_sides, is_free, among, spares}
 use Rattle.redn_segment.specs.Homes.{Home, base_of, room_of, LieApart}
 use Rattle.redn_segment.specs.Plain.{Put, Outcome, Went, acts, opcode_in}
 use Rattle.redn_segment.specs.Sites.{space_of, is_table, same_space}
 use Rattle.redn_window.specs.Stages.{Orderly, Plain, Gated}
 use Rattle.redn_window.specs.Windows.{Opening, bodies_of, slots_of, copy_of, origin_of, planned, may_write, slot_at}
-use Rattle.redn_words.proofs.Footprints.{footprint}
+use Rattle.redn_words.specs.Footprints.{footprint}
 use Rattle.redn_words.specs.Access.{EndsBy}
 use Rattle.redn_words.specs.Landings.{Place, Landing, landing}
 use Rattle.redn_words.specs.Ranges.{holds, within}
@@ -35,46 +34,19 @@ use Rattle.redn_words.specs.declared.types.Class.TheVariants as ask
 use Rattle.redn_segment.specs.declared.types.Side.{Side}
 use Rattle.redn_segment.specs.declared.types.Space.{Space}
 use Rattle.redn_segment.specs.declared.types.Draft.{Draft}
+use Rattle.redn_segment.proofs.AnyOrder.{all_at, free_at}
+use Rattle.redn_segment.proofs.Touching.{opcode_read, In, one_space, free_apart}
 
 good_flies : (chain : ℕ) (s : Space → List ℕ) (slot : List ℕ) (d : Draft) (op : Opcode) → IsGood (acts chain s slot d op) → class_by op ≡ ask.Flies
 unfolding acts
-good_flies chain s slot d Noop h = refl
-good_flies chain s slot d Write h = refl
-good_flies chain s slot d Read h = refl
-good_flies chain s slot d Cas h = refl
-good_flies chain s slot d Add h = refl
-good_flies chain s slot d Send h = refl
 good_flies chain s slot d Wait h = absurd h
 good_flies chain s slot d Enable h = absurd h
 good_flies chain s slot d (Undefined n) h = absurd h
+good_flies chain s slot d _ h = refl
 
--- drafts by their places in a list
-pub all_at : {X : Type 0} (test : X → Bool) (xs : List X) (k : ℕ) (x : X) → list_all test xs ≡ true → slice_get xs k ≡ Some x → test x ≡ true
-all_at test [] k x h e = absurd (cc)
-all_at test (y ∷ xs) zero x h e = let parts = and_parts (test y) (list_all test xs) h in let same : y ≡ x = cc in ap test (sym same) ∙ parts.0
-all_at test (y ∷ xs) (suc k) x h e = let parts = and_parts (test y) (list_all test xs) h in all_at test xs k x parts.1 e
-
-free_at : (ds : List Draft) (j k : ℕ) (d e : Draft) → all_free ds ≡ true → j < k → slice_get ds j ≡ Some d → slice_get ds k ≡ Some e → drafts_free d e ≡ true
-free_at [] j k d e h l f g = absurd (cc)
-free_at (c ∷ ds) j zero d e h l f g = absurd (omega arith)
-free_at (c ∷ ds) zero (suc k) d e h l f g =
-    let parts = and_parts (list_all (drafts_free c) ds) (all_free ds) h in
-    let same : c ≡ d = cc in
-    subst (λ (x : Draft). drafts_free x e ≡ true) same (all_at (drafts_free c) ds k e parts.0 g)
-free_at (c ∷ ds) (suc j) (suc k) d e h l f g = let parts = and_parts (list_all (drafts_free c) ds) (all_free ds) h in free_at ds j k d e parts.1 (omega arith) f g
-
-nothing_told : (home : Space → Home) (o : Obs) → told_by home o ≡ [] → o ≡ shows.Nothing
+pub nothing_told : (home : Space → Home) (o : Obs) → told_by home o ≡ [] → o ≡ shows.Nothing
 nothing_told home shows.Nothing e = refl
-nothing_told home (shows.Set c v w) e = absurd (cc)
-nothing_told home (shows.Load c v t o w) e = absurd (cc)
-nothing_told home (shows.Look c t o w) e = absurd (cc)
-nothing_told home (shows.Store c t o w) e = absurd (cc)
-nothing_told home (shows.Reply c n ws) e = absurd (cc)
-nothing_told home (shows.Fault c t o) e = absurd (cc)
-nothing_told home (shows.Stale q i) e = absurd (cc)
-nothing_told home (shows.Undefined q i) e = absurd (cc)
-nothing_told home (shows.Refused q i) e = absurd (cc)
-nothing_told home (shows.Odd q i) e = absurd (cc)
+nothing_told home _ e = absurd (cc)
 
 some_plain : (b a : Side) → Some b ≡ Some a → is_table b.site ≡ false → is_table a.site ≡ false
 some_plain b a e h = let same : b ≡ a = cc in subst (λ (x : Side). is_table x.site ≡ false) same h
@@ -122,9 +94,6 @@ module _ (home : Space → Home) (mine : Space → Bool) (regions : List Region)
         nth [] k l = absurd (omega arith)
         nth (d ∷ ds) zero l = (d, refl)
         nth (d ∷ ds) (suc k) l = nth ds k (omega arith)
-
-    inside_of : (k : ℕ) (d : Draft) → slice_get g.drafts k ≡ Some d → both_sides ends_inside d ≡ true
-    inside_of k d e = all_at (both_sides ends_inside) g.drafts k d apart.inside e
 
     pub mine_of : (k : ℕ) (d : Draft) (a : Side) → slice_get g.drafts k ≡ Some d → IsSide d a → mine (space_of a.site) ≡ true
     mine_of k d a e its = side_test d (λ (b : Side). mine (space_of b.site)) a (all_at (both_sides (λ (b : Side). mine (space_of b.site))) g.drafts k d apart.placed e) its

@@ -1,26 +1,22 @@
 -- Memory after changes of the places of some puts shows the spaces after the puts.
 use Rattle.std.proofs.Common.{◌≡◌, ℕ, zero, suc, ◌+◌, ◌<◌, ◌≤◌, ◌⊎◌, inl, inr, Bool, true, false, List, [], ◌∷◌, ◌++◌, map, length, refl, sym, ap, ◌∙◌, subst, arith}
-use Rattle.std.specs.Prelude.{if◌then◌else◌}
 use Rattle.redn_segment.proofs.SameSpace.{same_space_is}
 use Rattle.redn_homes.specs.Homes.{seen_in, change_of, Inside, puts_of_first}
 use Rattle.redn_segment.proofs.Pieces.{with_put_here, with_put_there}
 use Rattle.redn_segment.specs.Homes.{Home, base_of, room_of, LieApart}
-use Rattle.redn_segment.specs.Plain.{Bytes, Put, with_put, placed}
+use Rattle.redn_segment.specs.Plain.{Put, with_put, placed}
 use Rattle.redn_segment.specs.Sites.{same_space}
 use Rattle.redn_window.specs.Stages.{value, Standing, effect}
 use Rattle.redn_window.specs.Windows.{Opening, bodies_of}
-use Rattle.redn_words.proofs.Bytes.{byte, over, byte-changed, length-changed, same_range}
+use Rattle.redn_words.proofs.Bytes.{byte-changed, length-changed, same_range}
+use Rattle.redn_words.specs.Bytes.{byte, over}
 use Rattle.redn_words.proofs.Fields.{bytes_at-part}
 use Rattle.redn_words.proofs.Places.{length-with_bytes_at, bytes_at-other}
 use Rattle.redn_words.specs.Landings.{Change, changed}
 use Rattle.redn_words.specs.Ranges.{Fits}
 use Rattle.redn_words.specs.Words.{with_bytes_at}
 use Rattle.redn_segment.specs.declared.types.Space.{Space}
-
-pub same_placed : (us : List Put) (s t : Bytes) (q : Space) → s q ≡ t q → placed s us q ≡ placed t us q
-same_placed [] s t q e = e
-same_placed (u ∷ us) s t q e =
-    same_placed us (with_put s u) (with_put t u) q (ap (λ (b : List ℕ). if same_space u.space q then with_bytes_at b u.at u.bytes else b) e)
+use Rattle.redn_segment.proofs.Puts.{same_placed}
 
 module _ (home : Space → Home) (mine : Space → Bool) where
   -- one put

@@ -36,16 +36,12 @@ module _ (o p : Origin) (same : o.chain ≡ p.chain) where
         subst (λ (n : ℕ). Tells (write_to o q w Vars) (when (n == 8 && r.remote % 8 == 0) (shows.Set p.chain (r.remote / 8) w) p)) len (subst (λ (n : ℕ). Tells (write_to o q w Vars) (when (q.length == 8 && n % 8 == 0) (shows.Set p.chain (n / 8) w) p)) e (when_tells (q.length == 8 && q.remote % 8 == 0) (shows.Set o.chain (q.remote / 8) w) (shows.Set p.chain (q.remote / 8) w) (ap (λ (c : ℕ). shows.Set c (q.remote / 8) w) same)))
     write_to_tells w (Table t) e =
         subst (λ (n : ℕ). Tells (write_to o q w (Table t)) (when (n == 8) (shows.Store p.chain t r.remote w) p)) len (subst (λ (n : ℕ). Tells (write_to o q w (Table t)) (when (q.length == 8) (shows.Store p.chain t n w) p)) e (when_tells (q.length == 8) (shows.Store o.chain t q.remote w) (shows.Store p.chain t q.remote w) (ap (λ (c : ℕ). shows.Store c t q.remote w) same)))
-    write_to_tells w Code e = refl
-    write_to_tells w Control e = refl
     write_to_tells w Message e = tt
+    write_to_tells w _ e = refl
 
     pub write_tells : (w : ℕ) (j k : Kind) → same_offset k q.remote r.remote → Tells (write_shows o q w j k) (write_shows p r w j k)
-    write_tells w Vars k e = write_to_tells w k e
     write_tells w (Table t) k e = tt
-    write_tells w Code k e = write_to_tells w k e
-    write_tells w Control k e = write_to_tells w k e
-    write_tells w Message k e = write_to_tells w k e
+    write_tells w _ k e = write_to_tells w k e
 
     into_vars_set : (w : ℕ) → q.local ≡ r.local → Tells (when (q.length == 8 && q.local % 8 == 0) (shows.Set o.chain (q.local / 8) w) o) (when (r.length == 8 && r.local % 8 == 0) (shows.Set p.chain (r.local / 8) w) p)
     into_vars_set w e =
@@ -56,46 +52,36 @@ module _ (o p : Origin) (same : o.chain ≡ p.chain) where
         let told : Tells (read_into_vars o q w (Table t)) (when (q.length == 8 && q.local % 8 == 0) (shows.Load p.chain (q.local / 8) t q.remote w) p) = when_tells (q.length == 8 && q.local % 8 == 0) (shows.Load o.chain (q.local / 8) t q.remote w) (shows.Load p.chain (q.local / 8) t q.remote w) (ap (λ (c : ℕ). shows.Load c (q.local / 8) t q.remote w) same) in
         subst (λ (n : ℕ). Tells (read_into_vars o q w (Table t)) (when (n == 8 && r.local % 8 == 0) (shows.Load p.chain (r.local / 8) t r.remote w) p)) len (subst (λ (n : ℕ). Tells (read_into_vars o q w (Table t)) (when (q.length == 8 && n % 8 == 0) (shows.Load p.chain (n / 8) t r.remote w) p)) l (subst (λ (n : ℕ). Tells (read_into_vars o q w (Table t)) (when (q.length == 8 && q.local % 8 == 0) (shows.Load p.chain (q.local / 8) t n w) p)) e told))
     into_vars_tells w Vars l e = into_vars_set w l
-    into_vars_tells w Code l e = into_vars_set w l
-    into_vars_tells w Control l e = into_vars_set w l
-    into_vars_tells w Message l e = into_vars_set w l
+    into_vars_tells w _ l e = into_vars_set w l
 
     hidden_tells : (w : ℕ) (k : Kind) → same_offset k q.remote r.remote → Tells (read_hidden o q w k) (read_hidden p r w k)
     hidden_tells w (Table t) e =
         subst (λ (n : ℕ). Tells (read_hidden o q w (Table t)) (when (n == 8) (shows.Look p.chain t r.remote w) p)) len (subst (λ (n : ℕ). Tells (read_hidden o q w (Table t)) (when (q.length == 8) (shows.Look p.chain t n w) p)) e (when_tells (q.length == 8) (shows.Look o.chain t q.remote w) (shows.Look p.chain t q.remote w) (ap (λ (c : ℕ). shows.Look c t q.remote w) same)))
     hidden_tells w Vars e = refl
-    hidden_tells w Code e = refl
-    hidden_tells w Control e = refl
-    hidden_tells w Message e = refl
+    hidden_tells w _ e = refl
 
     pub read_tells : (w : ℕ) (j k : Kind) → same_offset j q.local r.local → same_offset k q.remote r.remote → Tells (read_shows o q w j k) (read_shows p r w j k)
     read_tells w Vars k l e = into_vars_tells w k l e
-    read_tells w Code k l e = hidden_tells w k e
-    read_tells w Control k l e = hidden_tells w k e
     read_tells w (Table t) k l e = tt
     read_tells w Message k l e = tt
+    read_tells w _ k l e = hidden_tells w k e
 
     add_to_tells : (w : ℕ) (k : Kind) → same_offset k q.remote r.remote → Tells (add_to o q w k) (add_to p r w k)
     add_to_tells w Vars e = ap (λ (c : ℕ). shows.Set c (q.remote / 8) w) same ∙ ap (λ (n : ℕ). shows.Set p.chain (n / 8) w) e
-    add_to_tells w Code e = refl
-    add_to_tells w Control e = refl
     add_to_tells w (Table t) e = tt
     add_to_tells w Message e = tt
+    add_to_tells w _ e = refl
 
     pub add_tells : (w : ℕ) (j k : Kind) → same_offset k q.remote r.remote → Tells (add_shows o q w j k) (add_shows p r w j k)
-    add_tells w Vars k e = tt
-    add_tells w (Table t) k e = tt
     add_tells w Code k e = add_to_tells w k e
     add_tells w Control k e = add_to_tells w k e
-    add_tells w Message k e = tt
+    add_tells w _ k e = tt
 
     pub send_tells : (sent : List ℕ) (j : Kind) → Tells (send_shows o q sent j) (send_shows p r sent j)
     send_tells sent Control =
         subst (λ (n : ℕ). Tells (send_shows o q sent Control) (when (n % 8 == 0 && nat_le n 64) (shows.Reply p.chain (n / 8) (reply_words (n / 8) sent)) p)) len (when_tells (q.length % 8 == 0 && nat_le q.length 64) (shows.Reply o.chain (q.length / 8) (reply_words (q.length / 8) sent)) (shows.Reply p.chain (q.length / 8) (reply_words (q.length / 8) sent)) (ap (λ (c : ℕ). shows.Reply c (q.length / 8) (reply_words (q.length / 8) sent)) same))
     send_tells sent Vars = tt
-    send_tells sent (Table t) = tt
-    send_tells sent Code = tt
-    send_tells sent Message = tt
+    send_tells sent _ = tt
 
   pub cas_tells : (j k : Kind) → Tells (cas_shows o j k) (cas_shows p j k)
   cas_tells j k = when_tells (is_hidden j && is_hidden k) shows.Nothing shows.Nothing refl
@@ -120,7 +106,4 @@ module _ (home : Space → Home) where
     lands_told (shows.Store c t o w) h = told (shows.Store c t o w ∷ []) (ap (told_by home) (sym h))
     lands_told (shows.Reply c n ws) h = told (shows.Reply c n ws ∷ []) (ap (told_by home) (sym h))
     lands_told (shows.Fault c t o) h = absurd h
-    lands_told (shows.Stale q i) h = tt
-    lands_told (shows.Undefined q i) h = tt
-    lands_told (shows.Refused q i) h = tt
-    lands_told (shows.Odd q i) h = tt
+    lands_told _ h = tt

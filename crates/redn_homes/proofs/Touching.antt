@@ -1,24 +1,22 @@
 -- The bytes of memory that a placed draft reads and may write lie in its sides; and drafts that are free of one another touch no byte in common that one of them writes.
-use Rattle.std.proofs.Common.{◌≡◌, ℕ, ◌+◌, ◌-◌, ◌<◌, ◌≤◌, ◌⊎◌, inl, inr, Bool, true, false, not, ◌&&◌, ◌||◌, List, [], ◌∷◌, ◌++◌, refl, sym, ap, ◌∙◌, subst, arith}
-use Rattle.std.specs.Prelude.{nat_lt, min, max, Ok, Err}
-use Rattle.std.proofs.lemmas.Bool.{false≢true, and_from, or_left, or_right, or_cases, lt-ltb}
+use Rattle.std.proofs.Common.{◌≡◌, ℕ, ◌+◌, ◌-◌, ◌<◌, ◌≤◌, ◌⊎◌, inl, inr, Bool, true, false, List, [], ◌∷◌, ◌++◌, refl, sym, ap, ◌∙◌, subst, arith}
+use Rattle.std.specs.Prelude.{Ok, Err}
+use Rattle.std.proofs.lemmas.Bool.{false≢true, or_left, or_right, or_cases}
 use Rattle.redn_words.specs.declared.types.Region.{Region}
 use Rattle.redn_words.specs.declared.types.Request.{Request}
 use Rattle.redn_words.specs.declared.types.Need.{Need}
-use Rattle.redn_words.specs.declared.types.Spot.{Spot}
 use Rattle.redn_words.specs.declared.types.Opcode.{Opcode}
-use Rattle.redn_words.specs.declared.types.Opcode.TheVariants.{Noop, Write, Read, Cas, Add, Send, Wait, Enable, Undefined}
-use Rattle.redn_homes.proofs.Decoding.{opcode_read}
+use Rattle.redn_words.specs.declared.types.Opcode.TheVariants.{Noop, Write, Read, Cas, Add, Send}
 use Rattle.redn_homes.specs.Homes.{HasTarget, range_of, reads_by}
-use Rattle.redn_homes.specs.Segments.{is_table_space, acts_locally, IsSet}
-use Rattle.redn_segment.proofs.SameSpace.{same_space_is, table_space}
-use Rattle.redn_segment.proofs.Sides.{inside_space, IsSide, LocalSide, RemoteSide, side_test, access_spot, write_remote, side_at, read_local, write_local, cas_remote, read_remote, cas_local, add_remote, add_local, send_local}
-use Rattle.redn_segment.specs.Footprints.{ends_inside, from, meet, is_free}
-use Rattle.redn_segment.specs.Homes.{Home, IsHome, IsTold, base_of, room_of, LieApart}
+use Rattle.redn_homes.specs.Segments.{acts_locally, IsSet}
+use Rattle.redn_segment.proofs.SameSpace.{table_space}
+use Rattle.redn_segment.proofs.Sides.{IsSide, LocalSide, RemoteSide, access_spot, write_remote, side_at, read_local, write_local, cas_remote, read_remote, cas_local, add_remote, add_local, send_local}
+use Rattle.redn_segment.specs.Footprints.{from}
+use Rattle.redn_segment.specs.Homes.{Home, IsHome, base_of, room_of}
 use Rattle.redn_segment.specs.Orders.{is_send, Follows}
 use Rattle.redn_segment.specs.Plain.{local_space, remote_space, local_at, remote_at, opcode_in}
-use Rattle.redn_segment.specs.Sites.{space_of, start_of, is_table, inside, same_space}
-use Rattle.redn_words.proofs.Footprints.{footprint, written_by, place_at}
+use Rattle.redn_segment.specs.Sites.{space_of, start_of, is_table}
+use Rattle.redn_words.specs.Footprints.{footprint, written_by, place_at}
 use Rattle.redn_words.proofs.Ranges.{holds_bounds}
 use Rattle.redn_words.specs.Access.{access, region_of}
 use Rattle.redn_words.specs.Landings.{Place, local_side, remote_side}
@@ -26,8 +24,8 @@ use Rattle.redn_words.specs.Ranges.{holds, within}
 use Rattle.redn_words.specs.Requests.{decoded}
 use Rattle.redn_segment.specs.declared.types.Side.{Side}
 use Rattle.redn_segment.specs.declared.types.Space.{Space}
-use Rattle.redn_segment.specs.declared.types.Space.TheVariants as space
 use Rattle.redn_segment.specs.declared.types.Draft.{Draft}
+use Rattle.redn_segment.proofs.Touching.{In, opcode_read, plain_room, one_place, table_fills}
 
 module _ (d : Draft) where
   -- of the local side alone
@@ -36,65 +34,14 @@ module _ (d : Draft) where
   OnLocal a (inr is) X = Unit {0}
 
 module _ (home : Space → Home) where
-  -- a byte of memory lies in a side; of a table's side it is known only that it lies in the table
-  pub record In (a : Side) (p : ℕ) : Type 0 where
-    pub at : ℕ
-    pub is : p ≡ base_of home (space_of a.site) + at
-    pub room : at < room_of home (space_of a.site)
-    pub bounds : is_table a.site ≡ false → (from a ≤ at) × (at < from a + a.len)
-
-  module _ (mine : Space → Bool) (size : ℕ) (apart : LieApart home mine size) where
-    -- a byte of memory is in one space
-    pub one_space : (q r : Space) (i j p : ℕ) → mine q ≡ true → mine r ≡ true → p ≡ base_of home q + i → i < room_of home q → p ≡ base_of home r + j → j < room_of home r → same_space q r ≡ true
-    one_space q r i j p its others e l f k =
-        elim (same_space q r) as (λ b. same_space q r ≡ b → b ≡ true) [
-          | true ↦ λ t. refl
-          | false ↦ λ t. absurd (by_side (apart.apart q r its others t))
-        ] refl
-      where
-        by_side : (base_of home q + room_of home q ≤ base_of home r) ⊎ (base_of home r + room_of home r ≤ base_of home q) → ⊥
-        by_side (inl h) = omega arith
-        by_side (inr h) = omega arith
-
-    pub in_both : (a b : Side) (p : ℕ) → mine (space_of a.site) ≡ true → mine (space_of b.site) ≡ true → In a p → In b p → meet a b ≡ true
-    in_both a b p its others x y =
-        let same : same_space (space_of a.site) (space_of b.site) ≡ true = one_space (space_of a.site) (space_of b.site) x.at y.at p its others x.is x.room y.is y.room in
-        let is : space_of a.site ≡ space_of b.site = same_space_is (space_of a.site) (space_of b.site) same in
-        and_from (same_space (space_of a.site) (space_of b.site)) _ same (elim (is_table a.site) as (λ t. is_table a.site ≡ t → (t || nat_lt (max (from a) (from b)) (min (from a + a.len) (from b + b.len))) ≡ true) [
-          | true ↦ λ t. refl
-          | false ↦ λ t.
-              let plain : is_table b.site ≡ false = table_space b.site ∙ ap is_table_space (sym is) ∙ sym (table_space a.site) ∙ t in
-              let base : base_of home (space_of a.site) ≡ base_of home (space_of b.site) = ap (base_of home) is in
-              let first = x.bounds t in
-              let second = y.bounds plain in
-              let e = x.is in
-              let f = y.is in
-              lt-ltb (max (from a) (from b)) (min (from a + a.len) (from b + b.len)) (omega (arith, first.0, first.1, second.0, second.1))
-        ] refl)
-
-    -- free sides have no byte in common
-    pub free_apart : (a b : Side) (p : ℕ) → mine (space_of a.site) ≡ true → mine (space_of b.site) ≡ true → is_free a b ≡ true → (a.writes || b.writes) ≡ true → In a p → In b p → ⊥
-    free_apart a b p its others free w x y =
-        let m : meet a b ≡ true = in_both a b p its others x y in
-        let both : ((a.writes || b.writes) && meet a b) ≡ true = and_from (a.writes || b.writes) (meet a b) w m in
-        false≢true (ap not (sym both) ∙ free)
-
   module _ (regions : List Region) (domain size : ℕ) (d : Draft) (slot : List ℕ) (set : IsSet home regions domain size d slot) where
     -- a byte of a side of the draft
     pub record InSide (w : Bool) (p : ℕ) : Type 0 where
       pub side : Side
       pub its : IsSide d side
       pub writes : w ≡ true → side.writes ≡ true
-      pub bytes : In side p
+      pub bytes : In home side p
       pub locally : OnLocal d side its (w ≡ true → acts_locally (opcode_in slot) ≡ true)
-
-    -- a side that is no table lies in its space
-    plain_room : (a : Side) (n : ℕ) → IsSide d a → n ≤ a.len → is_table a.site ≡ false → 0 < n → from a + n ≤ room_of home (space_of a.site)
-    plain_room a n its short t l =
-        let test : (is_table a.site || inside a.site a.byte a.len) ≡ true = side_test d ends_inside a set.inside its in
-        let fits : inside a.site a.byte a.len ≡ true = subst (λ (b : Bool). (b || inside a.site a.byte a.len) ≡ true) t test in
-        let room = inside_space home a.site a.byte a.len t (omega arith) fits in
-        omega arith
 
     -- a byte of a range that begins where a side does
     range_in : (w : Bool) (a : Side) (at n p : ℕ) (its : IsSide d a) → (w ≡ true → a.writes ≡ true) → n ≤ a.len → (is_table a.site ≡ false → at ≡ from a) → (is_table a.site ≡ true → at + n ≤ room_of home (space_of a.site)) → OnLocal d a its (w ≡ true → acts_locally (opcode_in slot) ≡ true) → holds (range_of home (space_of a.site) at n) p ≡ true → InSide w p
@@ -112,7 +59,7 @@ module _ (home : Space → Home) where
             is = omega arith;
             room = elim (is_table a.site) as (λ t. is_table a.site ≡ t → p - base_of home (space_of a.site) < room_of home (space_of a.site)) [
               | true ↦ λ t. let e = ends t in omega arith
-              | false ↦ λ t. let e = start t in let room = plain_room a n its short t (omega arith) in omega arith
+              | false ↦ λ t. let e = start t in let room = plain_room home d set.inside a n its short t (omega arith) in omega arith
             ] refl;
             bounds = λ t. let e = start t in (omega arith, omega arith);
           };
@@ -120,9 +67,6 @@ module _ (home : Space → Home) where
 
     abbrev r : Request
     r = decoded slot
-
-    one_place : (s : Spot) (n p : ℕ) → within (place_at (Ok s) n) p ≡ true → holds (record { at = s.at; len = n }) p ≡ true
-    one_place s n p h = elim (or_cases (holds (record { at = s.at; len = n }) p) false h) [ inl e ↦ e | inr e ↦ absurd (false≢true e) ]
 
     -- what an access to the local side may touch
     local_in : (n : ℕ) (w : Bool) (need : Need) (p : ℕ) → LocalSide d n w → (w ≡ true → acts_locally (opcode_in slot) ≡ true) → is_table d.local ≡ false → within (place_at (access regions domain r.lkey r.local n need) n) p ≡ true → InSide w p
@@ -146,18 +90,6 @@ module _ (home : Space → Home) where
       plain_at : is_table d.remote ≡ false → remote_at slot d ≡ start_of d.remote + d.remote_byte
       plain_at t = rw t refl
 
-      table_fills : is_table d.remote ≡ true → ((home (remote_space d)).offset ≡ 0) × (room_of home (remote_space d) ≡ (home (remote_space d)).region.len)
-      table_fills t = of_space (remote_space d) (sym (table_space d.remote) ∙ t) remote_home.told
-        where
-          of_space : (q : Space) → is_table_space q ≡ true → IsTold q (home (remote_space d)).offset → ((home (remote_space d)).offset ≡ 0) × (room_of home q ≡ (home q).region.len)
-          of_space (space.Table n) e told = (told, refl)
-          of_space (space.Cell c) e told = absurd (false≢true e)
-          of_space space.Reply e told = absurd (false≢true e)
-          of_space space.Key e told = absurd (false≢true e)
-          of_space (space.Scratch i) e told = absurd (false≢true e)
-          of_space (space.Descriptor i) e told = absurd (false≢true e)
-          of_space (space.Slot q) e told = absurd (false≢true e)
-
       remote_in_side : (n : ℕ) (w : Bool) (need : Need) (p : ℕ) → RemoteSide d n w → within (place_at (access regions domain r.rkey r.remote n need) n) p ≡ true → InSide w p
       remote_in_side n w need p x =
           elim (access regions domain r.rkey r.remote n need) as (λ o. access regions domain r.rkey r.remote n need ≡ o → within (place_at o n) p ≡ true → InSide w p) [
@@ -166,7 +98,7 @@ module _ (home : Space → Home) where
                 let spot = access_spot regions domain r.rkey r.remote n need (home (remote_space d)).region s (ap (region_of regions) to.key ∙ remote_home.found) f in
                 let offset = to.offset in
                 let at : s.at ≡ base_of home (remote_space d) + remote_at slot d = let e = spot.0 in omega arith in
-                range_in w (side_at d.remote d.remote_byte x.len x.written) (remote_at slot d) n p (inr x.is) x.writes x.long plain_at (λ t. let full = table_fills t in let e = spot.1 in omega (arith, full.0, full.1)) tt (ap (λ (a : ℕ). holds (record { at = a; len = n }) p) (sym at) ∙ one_place s n p h)
+                range_in w (side_at d.remote d.remote_byte x.len x.written) (remote_at slot d) n p (inr x.is) x.writes x.long plain_at (λ t. let full = table_fills home (remote_space d) (sym (table_space d.remote) ∙ t) remote_home.told in let e = spot.1 in omega (arith, full.0, full.1)) tt (ap (λ (a : ℕ). holds (record { at = a; len = n }) p) (sym at) ∙ one_place s n p h)
           ] refl
 
     -- the two places of a CAS or an ADD
@@ -204,9 +136,7 @@ module _ (home : Space → Home) where
           | inr f ↦ local_in 8 true _ p (add_local d (follows Add e)) (λ t. ap acts_locally e) plain f
         ]
         by_op Send e g = absurd (false≢true g)
-        by_op Wait e g = absurd (false≢true g)
-        by_op Enable e g = absurd (false≢true g)
-        by_op (Undefined n) e g = absurd (false≢true g)
+        by_op _ e g = absurd (false≢true g)
 
     -- and one that it reads lies in a side, where its step goes through
     pub reads_in : is_table d.local ≡ false → is_table d.remote ≡ false → (p : ℕ) → holds (reads_by home d slot (opcode_in slot)) p ≡ true → InSide false p
@@ -228,12 +158,9 @@ module _ (home : Space → Home) where
         unasked n x = record { len = x.len; written = x.written; is = x.is; long = x.long; writes = λ e. absurd (false≢true e) }
 
         by_op : (op : Opcode) → opcode_in slot ≡ op → holds (reads_by home d slot op) p ≡ true → InSide false p
-        by_op Noop e g = absurd (none p g)
         by_op Write e g = local_range d.length (write_local d (follows Write e)) g
         by_op Read e g = remote_range d.length (read_remote d (follows Read e)) g
         by_op Cas e g = remote_range 8 (unasked 8 (cas_remote d (follows Cas e))) g
         by_op Add e g = remote_range 8 (unasked 8 (add_remote d (follows Add e))) g
         by_op Send e g = local_range d.length (send_local d (follows Send e)) g
-        by_op Wait e g = absurd (none p g)
-        by_op Enable e g = absurd (none p g)
-        by_op (Undefined n) e g = absurd (none p g)
+        by_op _ e g = absurd (none p g)

@@ -22,7 +22,8 @@ DraftsLand =
     (home : Space → Home) (regions : List Region) (o : Origin) (m : List ℕ) (d : Draft) (slot : List ℕ) → CanLand home regions o.chain (length m) d slot (opcode_in slot) → LandsAs home (reads_by home d slot (opcode_in slot)) (acts o.chain (seen_in home m) slot d (opcode_in slot)) (landing regions o m (decoded slot))
 
 -- a segment that lies in memory, with its gates, when its window opens
-pub record Opens (home : Space → Home) (mine : Space → Bool) (regions : List Region) (ring : ℕ) (row : QueueRow) (ours : ℕ → Bool) (g : Part) (lap counter : ℕ) (m : List ℕ) : Type 0 where
+pub record Opens (home : Space → Home) (mine : Space → Bool) (regions : List Region) (ring : ℕ) (row : QueueRow) (ours : ℕ
+    → Bool) (g : Part) (lap counter : ℕ) (m : List ℕ) : Type 0 where
   pub lie : Lying home mine ring row
   pub apart : IsApart mine ring g
   pub through : GoesThrough home regions ring row g m
@@ -37,10 +38,15 @@ pub record Opens (home : Space → Home) (mine : Space → Bool) (regions : List
 -- its window is orderly, so its drafts land in any order
 abbrev pub SegmentsOrderly : Type 0
 SegmentsOrderly =
-    (home : Space → Home) (mine : Space → Bool) (regions : List Region) (ring : ℕ) (row : QueueRow) (ours : ℕ → Bool) (g : Part) (lap counter : ℕ) (m : List ℕ) → Opens home mine regions ring row ours g lap counter m → Orderly (segment_window home regions ring row ours g lap counter m)
+    (home : Space → Home) (mine : Space → Bool) (regions : List Region) (ring : ℕ) (row : QueueRow) (ours : ℕ
+    → Bool) (g : Part) (lap counter : ℕ) (m : List ℕ) → Opens home mine regions ring row ours g lap counter m
+    → Orderly (segment_window home regions ring row ours g lap counter m)
 
 -- behind a window whose bodies make puts, memory shows each private space after them
 abbrev pub SegmentsShow : Type 0
 SegmentsShow =
-    (home : Space → Home) (mine : Space → Bool) (w : Opening) (n : List ℕ) (event : List Change) → Standing w n (λ k. true) event → (each : ℕ → List Put) → ((k : ℕ) → k < bodies_of w → effect w event k ≡ map (change_of home) (each k)) → LieApart home mine (length w.memory) → Inside home mine (puts_of_first each (bodies_of w))
-    → (p : Space) → mine p ≡ true → ((i : ℕ) → base_of home p ≤ i → i < base_of home p + room_of home p → w.ours i ≡ true) → seen_in home n p ≡ placed (seen_in home w.memory) (puts_of_first each (bodies_of w)) p
+    (home : Space → Home) (mine : Space → Bool) (w : Opening) (n : List ℕ) (event : List Change) → Standing w n (λ k. true) event
+    → (each : ℕ → List Put) → ((k : ℕ) → k < bodies_of w → effect w event k ≡ map (change_of home) (each k))
+    → LieApart home mine (length w.memory) → Inside home mine (puts_of_first each (bodies_of w))
+    → (p : Space) → mine p ≡ true → ((i : ℕ) → base_of home p ≤ i → i < base_of home p + room_of home p → w.ours i ≡ true)
+    → seen_in home n p ≡ placed (seen_in home w.memory) (puts_of_first each (bodies_of w)) p

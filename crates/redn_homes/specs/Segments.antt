@@ -103,5 +103,7 @@ pub record IsApart (mine : Space → Bool) (ring : ℕ) (g : Part) : Type 0 wher
 pub record GoesThrough (home : Space → Home) (regions : List Region) (ring : ℕ) (row : QueueRow) (g : Part) (m : List ℕ) : Type 0 where
   pub set : (k : ℕ) (d : Draft) → slice_get g.drafts k ≡ Some d → IsSet home regions row.domain (length m) d (slot_bytes home ring g m k)
   pub granted : (k : ℕ) (d : Draft) → slice_get g.drafts k ≡ Some d → Granted home (opcode_in (slot_bytes home ring g m k)) d
-  pub good : (k : ℕ) (d : Draft) → slice_get g.drafts k ≡ Some d → IsGood (acts row.domain (seen_in home m) (slot_bytes home ring g m k) d (opcode_in (slot_bytes home ring g m k)))
-  pub silent : (k : ℕ) (d : Draft) → slice_get g.drafts k ≡ Some d → k ≢ g.event → (us : List Put) × (acts row.domain (seen_in home m) (slot_bytes home ring g m k) d (opcode_in (slot_bytes home ring g m k)) ≡ Went us [])
+  pub good : (k : ℕ) (d : Draft) → slice_get g.drafts k ≡ Some d
+      → IsGood (acts row.domain (seen_in home m) (slot_bytes home ring g m k) d (opcode_in (slot_bytes home ring g m k)))
+  pub silent : (k : ℕ) (d : Draft) → slice_get g.drafts k ≡ Some d → k ≢ g.event
+      → (us : List Put) × (acts row.domain (seen_in home m) (slot_bytes home ring g m k) d (opcode_in (slot_bytes home ring g m k)) ≡ Went us [])

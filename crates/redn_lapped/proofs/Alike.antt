@@ -5,7 +5,7 @@ use Rattle.std.specs.List.{list_all}
 use Rattle.std.proofs.lemmas.Bool.{and_parts, true≢false}
 use Rattle.redn_words.specs.declared.types.Obs.{Obs}
 use Rattle.redn_words.specs.declared.types.Opcode.{Opcode}
-use Rattle.redn_words.specs.declared.types.Opcode.TheVariants.{Noop, Write, Read, Cas, Add, Send, Wait, Enable, Undefined}
+use Rattle.redn_words.specs.declared.types.Opcode.TheVariants.{Noop, Write, Read, Cas, Add, Send}
 use Rattle.redn_words.specs.Words.{with_bytes_at, bytes_at, spelled, word}
 use Rattle.redn_words.specs.Landings.{sum_of}
 use Rattle.redn_segment.specs.declared.types.SlotRef.{SlotRef}
@@ -46,15 +46,12 @@ module _ (aside : Space → Bool) where
       (not_true (aside (local_space d)) parts.0, not_true (aside (remote_space d)) parts.1)
 
   reads_same : (s t : Bytes) (slot : List ℕ) (d : Draft) (op : Opcode) → s (local_space d) ≡ t (local_space d) → s (remote_space d) ≡ t (remote_space d) → ReadsSame s t slot d op
-  reads_same s t slot d Noop l r = tt
   reads_same s t slot d Write l r = (ap (λ (b : List ℕ). bytes_at b (local_at d) d.length) l, λ e. ap length r)
   reads_same s t slot d Read l r = (ap (λ (b : List ℕ). bytes_at b (remote_at slot d) d.length) r, λ e. ap length r)
   reads_same s t slot d Cas l r = ap (λ (b : List ℕ). bytes_at b (remote_at slot d) 8) r
   reads_same s t slot d Add l r = ap (λ (b : List ℕ). bytes_at b (remote_at slot d) 8) r
   reads_same s t slot d Send l r = ap (λ (b : List ℕ). bytes_at b (local_at d) d.length) l
-  reads_same s t slot d Wait l r = tt
-  reads_same s t slot d Enable l r = tt
-  reads_same s t slot d (Undefined n) l r = tt
+  reads_same s t slot d _ l r = tt
 
   alike_seeing : (tables : ℕ → List ℕ) (s t : Bytes) → Alike s t → Alike (seeing tables s) (seeing tables t)
   alike_seeing tables s t h (space.Table k) e = refl
@@ -118,9 +115,7 @@ module _ (aside : Space → Bool) where
     puts_spared Send e =
         let a = went_if (is_length d.length && (not (is_table d.local) && inside d.local d.local_byte d.length)) _ us events e in
         only [] _ tt a.1
-    puts_spared Wait e = absurd (cc)
-    puts_spared Enable e = absurd (cc)
-    puts_spared (Undefined n) e = absurd (cc)
+    puts_spared _ e = absurd (cc)
 
   all_both : (us vs : List Put) → AllSpared us → AllSpared vs → AllSpared (us ++ vs)
   all_both [] vs h k = k
@@ -129,8 +124,7 @@ module _ (aside : Space → Bool) where
   -- the puts of a run that goes through
   after_went : (us : List Put) (before : List Obs) (o : Outcome) (vs : List Put) (events : List Obs) → AllSpared us → ((ws : List Put) (shown : List Obs) → o ≡ Went ws shown → AllSpared ws) → after us before o ≡ Went vs events → AllSpared vs
   after_went us before (Went ws shown) vs events h k e = let same : us ++ ws ≡ vs = cc in subst (λ (l : List Put). AllSpared l) same (all_both us ws h (k ws shown refl))
-  after_went us before (Faults ws shown) vs events h k e = absurd (cc)
-  after_went us before Bad vs events h k e = absurd (cc)
+  after_went us before _ vs events h k e = absurd (cc)
 
   pub run_spared : (v : View) (ds : List Draft) (at : SlotRef) (s : Bytes) (us : List Put) (events : List Obs) → list_all (spares_all aside) ds ≡ true → runs v at ds s ≡ Went us events → AllSpared us
   run_spared v [] at s us events e goes = let none : [] ≡ us = cc in subst (λ (l : List Put). AllSpared l) none tt

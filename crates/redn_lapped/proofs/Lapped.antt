@@ -114,11 +114,7 @@ module _ (g : Rings) (are : AreRings g) (ring domain base : ℕ) (is_ring : g.is
       let own = (and_parts (x.slot.ring == ring) _ e).0 in
       ap (λ (q : SlotRef). site.Field (record x { slot = q })) (ref_same x.slot own)
   site_same (site.Cell c) e = refl
-  site_same (site.ReplyWord i) e = refl
-  site_same site.Key e = refl
-  site_same (site.Scratch i) e = refl
-  site_same (site.Descriptor i) e = refl
-  site_same (site.Table t n) e = refl
+  site_same _ e = refl
 
   draft_same : (d : Draft) → draft_names_well its ring d ≡ true → renamed (ref_in_laps its ring) d ≡ renamed f d
   draft_same d e =

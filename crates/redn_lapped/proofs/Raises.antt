@@ -113,12 +113,7 @@ module _ (g : Rings) (are : AreRings g) (ring domain base : ℕ) (is_ring : g.is
 
       named_descriptor : (q : Space) → renamed_space (in_laps g) q ≡ space.Descriptor ring → q ≡ space.Descriptor ring
       named_descriptor (space.Slot q) e = absurd (cc)
-      named_descriptor (space.Descriptor i) e = e
-      named_descriptor (space.Cell c) e = e
-      named_descriptor space.Reply e = e
-      named_descriptor space.Key e = e
-      named_descriptor (space.Scratch i) e = e
-      named_descriptor (space.Table i) e = e
+      named_descriptor _ e = e
 
       no_slot : (q : Space) (i w : ℕ) → IsGap its some i w → renamed_space (in_laps g) q ≡ space.Slot (slot_of ring w) → ⊥
       no_slot (space.Slot q) i w gap e =
@@ -128,11 +123,7 @@ module _ (g : Rings) (are : AreRings g) (ring domain base : ℕ) (is_ring : g.is
           same_refl : (x : SlotRef) → same_slot x x ≡ true
           same_refl x = rw (eq-eqb x.ring x.ring refl, eq-eqb x.slot x.slot refl) refl
       no_slot (space.Cell c) i w gap e = absurd (cc)
-      no_slot space.Reply i w gap e = absurd (cc)
-      no_slot space.Key i w gap e = absurd (cc)
-      no_slot (space.Scratch k) i w gap e = absurd (cc)
-      no_slot (space.Descriptor k) i w gap e = absurd (cc)
-      no_slot (space.Table k) i w gap e = absurd (cc)
+      no_slot _ i w gap e = absurd (cc)
 
       by_gone : IsGone j p → (q : Space) → is_lapping q ≡ false → (j ≡ 0 → q ≢ space.Descriptor ring) → p ≡ renamed_space (in_laps g) q → ⊥
       by_gone (Word w) q plain own e = true≢false (sym w ∙ (ap is_lapping e ∙ (lapping_renamed q ∙ plain)))

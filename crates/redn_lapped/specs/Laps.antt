@@ -61,4 +61,7 @@ module _ (g : Rings) (ring domain base : ℕ) where
 -- a segment whose drafts name slots of their own ring alone, and nothing that lap requests have to themselves
 abbrev pub LapsChangeNothing : Type 0
 LapsChangeNothing =
-    (g : Rings) → AreRings g → (ring domain base : ℕ) → g.is_ring ring ≡ true → (number j : ℕ) → j < length (g.segments ring) → list_all (spares_all (set_aside ring j)) (segment_at (g.segments ring) j) ≡ true → list_all (draft_names_well (g.segments ring) ring) (segment_at (g.segments ring) j) ≡ true → (t s u : Bytes) → Mirrors g ring domain base j t s → Lapped g ring domain base number j t s u (plain_run g ring domain base number j t s u)
+    (g : Rings) → AreRings g → (ring domain base : ℕ) → g.is_ring ring ≡ true → (number j : ℕ) → j < length (g.segments ring)
+    → list_all (spares_all (set_aside ring j)) (segment_at (g.segments ring) j) ≡ true
+    → list_all (draft_names_well (g.segments ring) ring) (segment_at (g.segments ring) j) ≡ true → (t s u : Bytes)
+    → Mirrors g ring domain base j t s → Lapped g ring domain base number j t s u (plain_run g ring domain base number j t s u)

@@ -1,16 +1,17 @@
 -- From one segment to the next, or around to the next lap: which gates a segment raises, and that the closed forms go up with it.
 use Rattle.std.proofs.Common.{◌≡◌, ◌≢◌, ℕ, zero, suc, ◌+◌, ◌-◌, ◌*◌, ◌<◌, ◌≤◌, ◌⊎◌, inl, inr, Bool, true, false, cond, ◌&&◌, ◌==◌, [], ◌∷◌, refl, sym, ap, ◌∙◌, arith}
 use Rattle.std.specs.Prelude.{nat_lt, slice_get, Some}
-use Rattle.std.proofs.lemmas.Bool.{false≢true, cases_lt, cases_eq, eq-eqb, ne_eqb, eqb-true, and_parts}
+use Rattle.std.proofs.lemmas.Bool.{false≢true, cases_lt, cases_eq, eq-eqb, ne_eqb, eqb-true, and_parts, le-ltb as lt_false}
 use Rattle.std.proofs.Math.Nat.{mul-suc}
 use Rattle.redn_segment.specs.declared.types.SlotRef.{SlotRef}
 use Rattle.redn_segment.specs.declared.types.Space.TheVariants as space
 use Rattle.redn_segment.specs.declared.types.Draft.{Draft}
-use Rattle.redn_laps.proofs.LapWindows.{lt_true, lt_false}
+use Rattle.redn_laps.proofs.LapWindows.{lt_true}
 use Rattle.redn_recycle.specs.Laps.{Ring, IsRing, slot_of, lap_requests, gates_of, is_send_last, wait_of, enable_of, raise_wait, raise_enable, raise_descriptor, laps_begun, laps_behind, count_at, limit_at, opening_at}
 use Rattle.redn_segment.proofs.Pieces.{slot_is}
 use Rattle.redn_segment.specs.Primed.{covers, writes_at}
 use Rattle.redn_segment.specs.Sites.{same_slot}
+use Rattle.redn_laps.proofs.LapSteps.{some_is}
 
 module _ (name : ℕ) (r : Ring) (h : IsRing name r) where
   -- one segment on
@@ -18,9 +19,6 @@ module _ (name : ℕ) (r : Ring) (h : IsRing name r) where
   Advance n j then_n then_j = ((suc j < r.segments) × (then_n ≡ n) × (then_j ≡ suc j)) ⊎ ((suc j ≡ r.segments) × (then_n ≡ suc n) × (then_j ≡ 0))
 
   module _ (n j then_n then_j : ℕ) (go : Advance n j then_n then_j) where
-    behind_at : (a b g : ℕ) → laps_behind name r a b g ≡ laps_behind name r a b g
-    behind_at a b g = refl
-
     yes_behind : (a b g : ℕ) → suc g < b → laps_behind name r a b g ≡ suc a
     yes_behind a b g l = let t : nat_lt (suc g) b ≡ true = lt_true (suc g) b l in rw t refl
 
@@ -115,9 +113,6 @@ module _ (name : ℕ) (r : Ring) (h : IsRing name r) where
     A_wait : (g : ℕ) → d ≡ raise_wait name r g → i ≡ 0 → g < r.segments → gates_of name r g ≡ 2 → (suc g ≡ j) ⊎ ((j ≡ 0) × (suc g ≡ r.segments)) → Target j i d
     An_enable : (g : ℕ) → d ≡ raise_enable name r g → i ≡ 1 → g < r.segments → gates_of name r g ≡ 2 → suc g ≡ j → Target j i d
     A_descriptor : d ≡ raise_descriptor name r → i ≡ (cond r.sends 0 1) → j ≡ 0 → Target j i d
-
-  some_is : (a b : Draft) → Some a ≡ Some b → b ≡ a
-  some_is a b e = cc
 
   gated : (g : ℕ) → (r.sends ≡ false) ⊎ (suc g ≢ r.segments) → gates_of name r g ≡ 2
   gated g (inl e) = rw e refl

@@ -8,7 +8,7 @@ use Rattle.redn_homes.specs.Homes.{seen_in}
 use Rattle.redn_homes.specs.Requested.{IsReady}
 use Rattle.redn_homes.specs.Segments.{slot_space}
 use Rattle.redn_laps.proofs.LapAdvance.{Advance, gated_before}
-use Rattle.redn_laps.proofs.LapEvent.{EventIs, event_puts, body_inside, length_there, segment_leaves}
+use Rattle.redn_laps.proofs.LapEvent.{EventIs, Left, event_puts, body_inside, length_there, left_by}
 use Rattle.redn_laps.proofs.LapKept.{body_at}
 use Rattle.redn_laps.proofs.LapNext.{seen_bytes, in_ring, drafts_next, wait_here, enable_here, last_here, descriptor_here, slot_elsewhere, descriptor_elsewhere}
 use Rattle.redn_laps.proofs.LapPlaces.{wait_in, enable_in}
@@ -48,25 +48,28 @@ module _ (c : Plan) (laid : IsLaid c) (G : Meaning c) (promises : Promises c G) 
   some_is a b e = cc
 
   -- what the segment leaves
-  pub leaves : IsBytes n → (w.event < bodies_of w → Wrote w event) → Leaves c r j (seen_in c.home m) (seen_in c.home n)
-  leaves bytes wrote =
+  pub left : IsBytes n → (w.event < bodies_of w → Wrote w event) → Left c laid G promises x m ready n event
+  left bytes wrote =
       elim (cases_lt w.event (bodies_of w)) [
         | inl inside ↦
             let wr = wrote inside in
             let body = body_at c laid G promises x m ready (ring.event j) inside in
             let made = event_puts c laid G promises x m ready wr.memory wr.sound wr.agrees body.0 body.1 wr.allowed in
-            segment_leaves c laid G promises x m ready n event last made.puts (seen_in c.home wr.memory) made.events (λ k. seen_bytes c.home wr.memory (space.Table k) wr.sound) (λ past. absurd (let count = bodies_count c laid G promises x m ready in omega (arith, inside, past, count))) (λ d e.
+            left_by c laid G promises x m ready n event last made.puts (seen_in c.home wr.memory) made.events (λ k. seen_bytes c.home wr.memory (space.Table k) wr.sound) (λ past. absurd (let count = bodies_count c laid G promises x m ready in omega (arith, inside, past, count))) (λ d e.
             let same : body.0 ≡ d = some_is body.0 d (sym body.1 ∙ e) in
             subst (λ (f : Draft). EventIs c laid G promises x m ready made.puts event (seen_in c.home wr.memory) made.events f) same record {
               changes = wr.is ∙ made.lands.writes_are;
               goes = made.goes;
               fits = body_inside c laid G promises x m ready (ring.event j) body.0 (tabled (seen_in c.home m) (seen_in c.home wr.memory)) made.puts made.events body.1 (λ mine t. at_table body.0 wr.memory t ∙ length_there c laid G promises x m ready wr.memory body.0 wr.agrees.size mine) made.goes;
             })
-        | inr past ↦ segment_leaves c laid G promises x m ready n event last [] (seen_in c.home n) [] (λ k. seen_bytes c.home n (space.Table k) bytes) (λ past. refl) (λ d e. let count = bodies_count c laid G promises x m ready in let l = slice_get_within (ring_bodies r ring j) (ring.event j) d e in absurd (omega arith))
+        | inr past ↦ left_by c laid G promises x m ready n event last [] (seen_in c.home n) [] (λ k. seen_bytes c.home n (space.Table k) bytes) (λ past. refl) (λ d e. let count = bodies_count c laid G promises x m ready in let l = slice_get_within (ring_bodies r ring j) (ring.event j) d e in absurd (omega arith))
       ]
     where
       at_table : (d : Draft) (t : List ℕ) → is_table d.remote ≡ true → length (tabled (seen_in c.home m) (seen_in c.home t) (remote_space d)) ≡ length (seen_in c.home t (remote_space d))
       at_table d t e = let its = sym (table_space d.remote) ∙ e in rw its refl
+
+  pub leaves : IsBytes n → (w.event < bodies_of w → Wrote w event) → Leaves c r j (seen_in c.home m) (seen_in c.home n)
+  leaves bytes wrote = (left bytes wrote).leaves
 
   -- where the chain goes on
   pub record Onward (y : Turn c G) : Type 0 where

@@ -9,19 +9,19 @@ use Rattle.redn_segment.proofs.SameSpace.{table_space}
 use Rattle.redn_segment.proofs.PutSides.{send_none}
 use Rattle.redn_words.specs.declared.types.Obs.{Obs}
 use Rattle.redn_words.specs.declared.types.Opcode.{Opcode}
-use Rattle.redn_words.specs.declared.types.Opcode.TheVariants.{Noop, Write, Read, Cas, Add, Send, Wait, Enable, Undefined}
+use Rattle.redn_words.specs.declared.types.Opcode.TheVariants.{Write, Read, Cas, Add, Send}
 use Rattle.redn_homes.proofs.Decoding.{lands_placed}
 use Rattle.redn_homes.proofs.Reading.{ReadsSame, acts_same, puts_inside}
-use Rattle.redn_homes.proofs.Segments.{lands_silently, place_is, written, mine_of, apart_any}
+use Rattle.redn_homes.proofs.Segments.{lands_silently, written, mine_of, apart_any}
 use Rattle.redn_homes.proofs.Showing.{window_shows}
 use Rattle.redn_homes.proofs.Sided.{length-seen}
-use Rattle.redn_homes.proofs.Touching.{In}
+use Rattle.redn_segment.proofs.Touching.{In}
 use Rattle.redn_homes.specs.Homes.{seen_in, change_of, LandsAs, LandsWell, reads_by, Inside, puts_of_first}
 use Rattle.redn_homes.specs.Segments.{CanLand, is_table_space, IsSet, IsGood, GoesThrough, slot_space}
 use Rattle.redn_laps.proofs.LapKept.{body_at}
 use Rattle.redn_laps.proofs.LapNext.{seen_index, same_length, seen_short, seen_bytes}
 use Rattle.redn_laps.proofs.LapSteps.{slice_get_append, goes_through, set_at}
-use Rattle.redn_laps.proofs.LapWindows.{ring_orderly, room, spaces, ours_are, bodies_count, copy_at}
+use Rattle.redn_laps.proofs.LapWindows.{room, spaces, ours_are, bodies_count, copy_at}
 use Rattle.redn_laps.specs.Plans.{Plan, IsLaid, IsBody, IsPrivate, part_of, body_slot}
 use Rattle.redn_laps.specs.Turns.{Meaning, HasBytes, Promises, Turn, Ready, Leaves, tabled, window_at}
 use Rattle.redn_recycle.specs.Laps.{Ring, bodies_of as ring_bodies, lap_requests}
@@ -31,8 +31,8 @@ use Rattle.redn_segment.specs.Orders.{is_send, Follows}
 use Rattle.redn_segment.specs.Plain.{Bytes, Put, Outcome, Went, Faults, Bad, acts, opcode_in, local_space, remote_space, local_at, remote_at, local_bytes, remote_bytes, placed}
 use Rattle.redn_segment.specs.Primed.{IsBytes}
 use Rattle.redn_segment.specs.Sites.{space_of, start_of, is_table}
-use Rattle.redn_window.specs.Stages.{Orderly, Agrees, Standing, effect}
-use Rattle.redn_window.specs.Windows.{Opening, slot_at, bodies_of, slots_of, origin_of, landing_on, planned, may_write}
+use Rattle.redn_window.specs.Stages.{Agrees, Standing, effect}
+use Rattle.redn_window.specs.Windows.{Opening, bodies_of, origin_of, landing_on, planned, may_write}
 use Rattle.redn_words.proofs.Bytes.{same_range}
 use Rattle.redn_words.specs.Landings.{Landing, Change, landing}
 use Rattle.redn_words.specs.Requests.{decoded}
@@ -61,9 +61,6 @@ module _ (c : Plan) (laid : IsLaid c) (G : Meaning c) (promises : Promises c G) 
   abbrev e_at : ℕ
   e_at = ring.event j
 
-  ok : Orderly w
-  ok = ring_orderly c laid G promises x m ready
-
   module _ (t : List ℕ) (bytes : IsBytes t) (agrees : Agrees w t) (d : Draft) (e : IsBody c r j e_at d) where
     abbrev slot : List ℕ
     slot = seen_in home m (slot_space r (body_slot c r j e_at))
@@ -79,13 +76,6 @@ module _ (c : Plan) (laid : IsLaid c) (G : Meaning c) (promises : Promises c G) 
 
     private_sides : (is_table d.local ≡ false) × (e_at ≢ e_at → is_table d.remote ≡ false)
     private_sides = (laid.apart r j x.ring_in x.segment_in).private e_at d e
-
-    -- its slot is there as it was
-    same_slot : seen_in home t (slot_space r (body_slot c r j e_at)) ≡ slot
-    same_slot =
-        let here : e_at < slots_of w = omega (arith, inside) in
-        let place = place_is home c.mine c.regions r ring.row c.ours (laid.lie r x.ring_in) (part_of c r j) (x.laps r) (x.laps r * ring.segments + j) m (laid.apart r j x.ring_in x.segment_in) (goes_through c laid G promises x m ready) (spaces c laid G promises x m ready) (room c laid G promises x m ready) (ours_are c laid G promises x m ready) e_at here in
-        ap (λ (a : ℕ). bytes_at t a 64) (sym place) ∙ same_range t m (slot_at w e_at) 64 agrees.size (λ p low high. agrees.bytes p (ok.slots_ours e_at p here low high) (λ k l ne. ok.slots_spared e_at k p here l low high)) ∙ ap (λ (a : ℕ). bytes_at m a 64) place
 
     side_mine : (a : Side) → IsSide d a → c.mine (space_of a.site) ≡ true
     side_mine a its = mine_of home c.mine c.regions r ring.row c.ours (laid.lie r x.ring_in) (part_of c r j) (x.laps r) (x.laps r * ring.segments + j) m (laid.apart r j x.ring_in x.segment_in) (goes_through c laid G promises x m ready) (spaces c laid G promises x m ready) (room c laid G promises x m ready) (ours_are c laid G promises x m ready) e_at d a e its
@@ -134,15 +124,12 @@ module _ (c : Plan) (laid : IsLaid c) (G : Meaning c) (promises : Promises c G) 
     reach_same f = ap length (sym (table_there (remote_space d) (sym (table_space d.remote) ∙ f)))
 
     reads_same : (op : Opcode) → Follows d op → ReadsSame (seen_in home t) moment slot d op
-    reads_same Noop f = tt
     reads_same Write f = (local_same d.length (write_local d f), reach_same)
     reads_same Read f = (remote_same d.length false (read_remote d f), reach_same)
     reads_same Cas f = remote_same 8 true (cas_remote d f)
     reads_same Add f = remote_same 8 true (add_remote d f)
     reads_same Send f = local_same d.length (send_local d f)
-    reads_same Wait f = tt
-    reads_same Enable f = tt
-    reads_same (Undefined n) f = tt
+    reads_same _ f = tt
 
     -- it lands as its draft would on the state of the opening with the tables of its moment
     event_same : acts c.domain (seen_in home t) slot d (opcode_in slot) ≡ acts c.domain moment slot d (opcode_in slot)
@@ -159,11 +146,11 @@ module _ (c : Plan) (laid : IsLaid c) (G : Meaning c) (promises : Promises c G) 
         by_place i at within (inl f) = omega arith
         by_place i at within (inr f) = omega arith
 
-    event_good : IsGood (acts c.domain moment slot d (opcode_in slot))
+    pub event_good : IsGood (acts c.domain moment slot d (opcode_in slot))
     event_good =
         promises.good r j e_at d x.ghost moment x.ring_in x.segment_in (promises.tables r j x.ghost (seen_in home m) moment ready.fine (λ k. seen_bytes home t (space.Table k) bytes) (λ p h. plain_space p h.plain)) own_draft
 
-    event_lands : LandsAs home (reads_by home d slot (opcode_in slot)) (acts c.domain moment slot d (opcode_in slot)) (landing_on w t e_at)
+    pub event_lands : LandsAs home (reads_by home d slot (opcode_in slot)) (acts c.domain moment slot d (opcode_in slot)) (landing_on w t e_at)
     event_lands =
         let size : length m ≡ length t = sym agrees.size in
         let set : IsSet home c.regions ring.row.domain (length t) d slot = subst (λ (n : ℕ). IsSet home c.regions ring.row.domain n d slot) size (subst (λ (n : ℕ). IsSet home c.regions n (length m) d slot) (sym domain_is) its_set) in
@@ -190,8 +177,7 @@ module _ (c : Plan) (laid : IsLaid c) (G : Meaning c) (promises : Promises c G) 
   -- which puts the bodies make: those of the event are given
   abbrev pub puts_of : Outcome → List Put
   puts_of (Went us events) = us
-  puts_of (Faults us events) = []
-  puts_of Bad = []
+  puts_of _ = []
 
   abbrev pub outcome_at : ℕ → Draft → Outcome
   outcome_at k d = acts c.domain (seen_in home m) (seen_in home m (slot_space r (body_slot c r j k))) d (opcode_in (seen_in home m (slot_space r (body_slot c r j k))))
@@ -228,20 +214,9 @@ module _ (c : Plan) (laid : IsLaid c) (G : Meaning c) (promises : Promises c G) 
       effect_other : (k : ℕ) → (k == e_at) ≡ false → effect w event k ≡ (planned w k).writes
       effect_other k f = rw f refl
 
-  -- puts of a body lie in its spaces
-  sized : (u : Bytes) (d : Draft) → (is_table d.remote ≡ true → length (u (remote_space d)) ≡ room_of home (remote_space d)) → is_table d.remote ≡ true → length (u (remote_space d)) ≡ room_of home (remote_space d)
-  sized u d h = h
-
   sent : (o : Opcode) → is_send o ≡ true → o ≡ Send
   sent Send e = refl
-  sent Noop e = absurd (false≢true e)
-  sent Write e = absurd (false≢true e)
-  sent Read e = absurd (false≢true e)
-  sent Cas e = absurd (false≢true e)
-  sent Add e = absurd (false≢true e)
-  sent Wait e = absurd (false≢true e)
-  sent Enable e = absurd (false≢true e)
-  sent (Undefined n) e = absurd (false≢true e)
+  sent _ e = absurd (false≢true e)
 
   remote_or_send : (k : ℕ) (d : Draft) (o : Opcode) → IsBody c r j k d → Follows d o → (c.mine (remote_space d) ≡ true) ⊎ (o ≡ Send)
   remote_or_send k d o e f =
@@ -278,6 +253,11 @@ module _ (c : Plan) (laid : IsLaid c) (G : Meaning c) (promises : Promises c G) 
     pub goes : acts c.domain (tabled (seen_in home m) state) (seen_in home m (slot_space r (body_slot c r j e_at))) d (opcode_in (seen_in home m (slot_space r (body_slot c r j e_at)))) ≡ Went its events
     pub fits : Inside home c.mine its
 
+  -- what is left, and that the event wrote what its body puts
+  pub record Left (n : List ℕ) (event : List Change) : Type 0 where
+    pub leaves : Leaves c r j (seen_in home m) (seen_in home n)
+    pub made : (d : Draft) → IsBody c r j e_at d → event ≡ map (change_of home) (leaves.each e_at)
+
   module _ (n : List ℕ) (event : List Change) (last : Standing w n (λ k. true) event) (its : List Put) (state : Bytes) (events : List Obs) (tables : HasBytes state) (quiet : length (ring_bodies r ring j) ≤ e_at → events ≡ []) (is : (d : Draft) → IsBody c r j e_at d → EventIs its event state events d) where
     effects_are : (k : ℕ) → k < bodies_of w → effect w event k ≡ map (change_of home) (each its k)
     effects_are k l =
@@ -307,26 +287,28 @@ module _ (c : Plan) (laid : IsLaid c) (G : Meaning c) (promises : Promises c G) 
           | inr ne ↦ body_inside k body.0 (seen_in home m) (each its k) [] body.1 (λ mine t. length_there m body.0 refl mine) (other_goes its k body.0 body.1 ne)
         ]
 
+    each_event_is : each its e_at ≡ its
+    each_event_is = let here : (e_at == e_at) ≡ true = eq-eqb e_at e_at refl in rw here refl
+
     -- memory behind the window shows the spaces after the puts of the bodies
-    pub segment_leaves : Leaves c r j (seen_in home m) (seen_in home n)
-    segment_leaves =
+    pub left_by : Left n event
+    left_by =
         record {
-          each = each its;
-          tables = state;
-          bytes = tables;
-          events = events;
-          silent = quiet;
-          plain = λ k d e ne. other_goes its k d e ne;
-          event = λ d e.
-              let event_is = is d e in
-              let here : (e_at == e_at) ≡ true = eq-eqb e_at e_at refl in
-              let same : its ≡ each its e_at = rw here refl in
-              event_is.goes ∙ ap (λ (us : List Put). Went us events) same;
-          shows = λ p h.
-              window_shows home c.mine w n event last (each its) effects_are (spaces c laid G promises x m ready) (all_inside (each its) (bodies_of w) each_inside) p h.its (λ i low high. private_byte p h i low high) ∙ ap (λ (k : ℕ). placed (seen_in home m) (puts_of_first (each its) k) p) (bodies_count c laid G promises x m ready);
+          leaves = record {
+            each = each its;
+            tables = state;
+            bytes = tables;
+            events = events;
+            silent = quiet;
+            plain = λ k d e ne. other_goes its k d e ne;
+            event = λ d e. (is d e).goes ∙ ap (λ (us : List Put). Went us events) (sym each_event_is);
+            shows = λ p h.
+                window_shows home c.mine w n event last (each its) effects_are (spaces c laid G promises x m ready) (all_inside (each its) (bodies_of w) each_inside) p h.its (λ i low high. private_byte p h i low high) ∙ ap (λ (k : ℕ). placed (seen_in home m) (puts_of_first (each its) k) p) (bodies_count c laid G promises x m ready);
+          };
+          made = λ d e. (is d e).changes ∙ ap (map (change_of home)) (sym each_event_is);
         }
       where
         private_byte : (p : Space) → IsPrivate c p → (i : ℕ) → base_of home p ≤ i → i < base_of home p + room_of home p → w.ours i ≡ true
         private_byte p h i low high =
-            let at : i ≡ base_of home p + (i - base_of home p) = omega arith in
-            ap c.ours at ∙ laid.private p (i - base_of home p) h (omega arith)
+            let at : i ≡ base_of home p + (i - base_of home p) = omega (arith, low) in
+            ap c.ours at ∙ laid.private p (i - base_of home p) h (omega (arith, low, high))

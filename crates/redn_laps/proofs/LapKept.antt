@@ -6,7 +6,8 @@ use Rattle.std.proofs.lemmas.Option.{slice_get_within}
 use Rattle.redn_segment.proofs.Sides.{IsSide, side_at}
 use Rattle.redn_segment.proofs.SameSpace.{same_space_is}
 use Rattle.redn_homes.proofs.Segments.{draft_at, written, mine_of, lands_silently}
-use Rattle.redn_homes.proofs.Touching.{OnLocal, one_space}
+use Rattle.redn_homes.proofs.Touching.{OnLocal}
+use Rattle.redn_segment.proofs.Touching.{one_space}
 use Rattle.redn_homes.specs.Homes.{seen_in, change_of}
 use Rattle.redn_homes.specs.Segments.{acts_locally, slot_space}
 use Rattle.redn_laps.proofs.LapPlaces.{written_byte}
@@ -23,7 +24,8 @@ use Rattle.redn_segment.specs.Sites.{space_of, same_space}
 use Rattle.redn_window.proofs.Ends.{byte_kept, byte_written}
 use Rattle.redn_window.specs.Stages.{Orderly, Standing, effect}
 use Rattle.redn_window.specs.Windows.{Opening, bodies_of, may_write}
-use Rattle.redn_words.proofs.Bytes.{byte, hits, covers, over, over_missed, put as put_byte, byte_put, same_range}
+use Rattle.redn_words.proofs.Bytes.{over_missed, byte_put, same_range}
+use Rattle.redn_words.specs.Bytes.{byte, hits, covers, over, put as put_byte}
 use Rattle.redn_words.proofs.Fields.{bytes_at-part}
 use Rattle.redn_words.proofs.Numbers.{length-spelled}
 use Rattle.redn_words.proofs.Places.{length-with_bytes_at}
@@ -33,10 +35,10 @@ use Rattle.redn_segment.specs.declared.types.Space.{Space}
 use Rattle.redn_segment.specs.declared.types.Space.TheVariants as space
 use Rattle.redn_segment.specs.declared.types.Draft.{Draft}
 use Rattle.redn_words.specs.declared.types.Opcode.{Opcode}
-use Rattle.redn_words.specs.declared.types.Opcode.TheVariants.{Noop, Write, Read, Cas, Add, Send, Wait, Enable, Undefined}
+use Rattle.redn_words.specs.declared.types.Opcode.TheVariants.{Noop, Write, Read, Cas, Add, Send}
 use Rattle.redn_segment.specs.declared.types.Side.{Side}
 
-some_site : (b a : Side) → Some b ≡ Some a → a.site ≡ b.site
+pub some_site : (b a : Side) → Some b ≡ Some a → a.site ≡ b.site
 some_site b a e = let same : a ≡ b = cc in ap (λ (x : Side). x.site) same
 
 module _ (c : Plan) (laid : IsLaid c) (G : Meaning c) (promises : Promises c G) (x : Turn c G) (m : List ℕ) (ready : Ready c G x m) where
@@ -86,9 +88,7 @@ module _ (c : Plan) (laid : IsLaid c) (G : Meaning c) (promises : Promises c G) 
       local_site a Cas f = some_site (side_at d.local d.local_byte 8 true) a f
       local_site a Add f = some_site (side_at d.local d.local_byte 8 true) a f
       local_site a Send f = some_site (side_at d.local d.local_byte d.length false) a f
-      local_site a Wait f = absurd (cc)
-      local_site a Enable f = absurd (cc)
-      local_site a (Undefined n) f = absurd (cc)
+      local_site a _ f = absurd (cc)
 
       remote_site : (a : Side) (op : Opcode) → remote_by d op ≡ Some a → a.site ≡ d.remote
       remote_site a Noop f = some_site (side_at d.remote d.remote_byte d.length true) a f
@@ -96,10 +96,7 @@ module _ (c : Plan) (laid : IsLaid c) (G : Meaning c) (promises : Promises c G) 
       remote_site a Read f = some_site (side_at d.remote d.remote_byte d.length false) a f
       remote_site a Cas f = some_site (side_at d.remote d.remote_byte 8 true) a f
       remote_site a Add f = some_site (side_at d.remote d.remote_byte 8 true) a f
-      remote_site a Send f = absurd (cc)
-      remote_site a Wait f = absurd (cc)
-      remote_site a Enable f = absurd (cc)
-      remote_site a (Undefined n) f = absurd (cc)
+      remote_site a _ f = absurd (cc)
 
       by_side : (a : Side) (of_d : IsSide d a) → space_of a.site ≡ p → OnLocal d a of_d (true ≡ true → acts_locally (opcode_in (seen_in home m (slot_space r (body_slot c r j k)))) ≡ true) → ((local_space d ≡ p) × (acts_locally (opcode_in (seen_in home m (slot_space r (body_slot c r j k)))) ≡ true)) ⊎ (remote_space d ≡ p)
       by_side a (inl f) same locally = inl (ap space_of (sym (local_site a d.op f)) ∙ same, locally refl)

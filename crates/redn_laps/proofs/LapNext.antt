@@ -24,10 +24,11 @@ use Rattle.redn_segment.specs.Primed.{IsBytes, covers, writes_at}
 use Rattle.redn_window.proofs.Raised.{second_at}
 use Rattle.redn_window.specs.Stages.{Standing}
 use Rattle.redn_window.specs.Windows.{bodies_of, may_write}
-use Rattle.redn_words.proofs.Bytes.{byte}
+use Rattle.redn_words.specs.Bytes.{byte}
 use Rattle.redn_words.proofs.Fields.{with_second}
 use Rattle.redn_words.proofs.Numbers.{length-spelled, number-spelled}
-use Rattle.redn_words.proofs.Slots.{IsNarrow, length-encoded}
+use Rattle.redn_words.proofs.Slots.{length-encoded}
+use Rattle.redn_words.specs.Slots.{IsNarrow}
 use Rattle.redn_words.specs.Landings.{Change}
 use Rattle.redn_words.specs.Requests.{encoded}
 use Rattle.redn_words.specs.Words.{bytes_at, with_bytes_at, word, spelled}
@@ -82,10 +83,6 @@ module _ (c : Plan) (laid : IsLaid c) (G : Meaning c) (promises : Promises c G) 
 
   abbrev pub its_ring : IsRing r ring
   its_ring = laid.rings r x.ring_in
-
-  -- which slots a body of the segment may write
-  Written : ℕ → SlotRef → ℕ → Type 0
-  Written k q b = MayWrite c r q b ⊎ ((i : ℕ) × (k ≡ length (ring.drafts j) + i) × (q.ring ≡ r) × Gate r ring its_ring j i q.slot)
 
   slot_write : (k : ℕ) (d : Draft) (q : SlotRef) (b : ℕ) → IsBody c r j k d → writes_at (space.Slot q) b d ≡ true → MayWrite c r q b ⊎ ((i : ℕ) × (k ≡ length (ring.drafts j) + i) × (q.ring ≡ r) × Gate r ring its_ring j i q.slot)
   slot_write k d q b e w =

@@ -1,17 +1,17 @@
 -- Where the slots of a ring with laps lie, and which bytes the bodies of a segment may write.
-use Rattle.std.proofs.Common.{◌≡◌, ◌≢◌, ℕ, zero, suc, ◌+◌, ◌-◌, ◌<◌, ◌≤◌, ◌⊎◌, inl, inr, Bool, true, false, length, refl, ap, ◌∙◌, subst, arith}
+use Rattle.std.proofs.Common.{◌≡◌, ◌≢◌, ℕ, zero, suc, ◌+◌, ◌-◌, ◌<◌, ◌≤◌, inl, inr, Bool, true, false, length, refl, ap, ◌∙◌, subst, arith}
 use Rattle.std.specs.Prelude.{nat_le, Some}
 use Rattle.std.proofs.lemmas.Bool.{false≢true, cases_lt, and_from, or_left, or_right, le-leb, lt-ltb}
 use Rattle.redn_segment.proofs.Sides.{IsSide, side_at}
 use Rattle.redn_segment.proofs.SameSpace.{same_space_is, table_space}
 use Rattle.redn_words.specs.declared.types.Opcode.{Opcode}
-use Rattle.redn_words.specs.declared.types.Opcode.TheVariants.{Noop, Write, Read, Cas, Add, Send, Wait, Enable, Undefined}
+use Rattle.redn_words.specs.declared.types.Opcode.TheVariants.{Noop, Write, Read, Cas, Add, Send}
 use Rattle.redn_segment.specs.declared.types.Side.{Side}
 use Rattle.redn_segment.specs.declared.types.Space.{Space}
 use Rattle.redn_segment.specs.declared.types.Draft.{Draft}
-use Rattle.redn_homes.proofs.Touching.{In, one_space}
+use Rattle.redn_segment.proofs.Touching.{In, one_space}
 use Rattle.redn_homes.specs.Segments.{is_table_space}
-use Rattle.redn_recycle.specs.Laps.{Ring, IsRing, bodies_of as ring_bodies, gates_of, wait_of, enable_of, raise_wait, raise_enable, raise_descriptor}
+use Rattle.redn_recycle.specs.Laps.{Ring, IsRing, bodies_of as ring_bodies, gates_of, wait_of, enable_of}
 use Rattle.redn_segment.specs.Footprints.{local_by, remote_by, from}
 use Rattle.redn_segment.specs.Homes.{Home, base_of, room_of, LieApart}
 use Rattle.redn_segment.specs.Plain.{local_space, remote_space}
@@ -68,12 +68,6 @@ module _ (name : ℕ) (r : Ring) (h : IsRing name r) where
   pub places_differ : (i j a b : ℕ) → i < r.segments → j < r.segments → Place i a → Place j b → i ≢ j → a ≢ b
   places_differ i j a b l m x y ne e = apart_places i j a b l m ne x.low x.high y.low y.high e
 
-  -- a lap request in a segment raises something of this ring
-  pub data Target (j : ℕ) (d : Draft) : Type 0 where
-    A_wait : (i : ℕ) → d ≡ raise_wait name r i → i < r.segments → gates_of name r i ≡ 2 → (suc i ≡ j) ⊎ ((j ≡ 0) × (suc i ≡ r.segments)) → Target j d
-    An_enable : (i : ℕ) → d ≡ raise_enable name r i → suc i ≡ j → gates_of name r i ≡ 2 → Target j d
-    A_descriptor : d ≡ raise_descriptor name r → j ≡ 0 → Target j d
-
 -- which byte a written side has
 side_writes : (d : Draft) (a : Side) (p : Space) (i : ℕ) → IsSide d a → a.writes ≡ true → same_space (space_of a.site) p ≡ true → from a ≤ i → i < from a + a.len → writes_at p i d ≡ true
 side_writes d a p i (inl is) w same low high = by_op d.op is refl
@@ -96,9 +90,7 @@ side_writes d a p i (inl is) w same low high = by_op d.op is refl
     by_op Cas e f = local_hit 8 true e (ap (writes_local d) f)
     by_op Add e f = local_hit 8 true e (ap (writes_local d) f)
     by_op Send e f = absurd (unwritten d.length e)
-    by_op Wait e f = absurd (cc)
-    by_op Enable e f = absurd (cc)
-    by_op (Undefined n) e f = absurd (cc)
+    by_op _ e f = absurd (cc)
 side_writes d a p i (inr is) w same low high = by_op d.op is refl
   where
     remote_hit : (len : ℕ) (v : Bool) → Some (side_at d.remote d.remote_byte len v) ≡ Some a → writes_remote d d.op ≡ len → writes_at p i d ≡ true
@@ -118,10 +110,7 @@ side_writes d a p i (inr is) w same low high = by_op d.op is refl
     by_op Read e f = absurd (unwritten d.length e)
     by_op Cas e f = remote_hit 8 true e (ap (writes_remote d) f)
     by_op Add e f = remote_hit 8 true e (ap (writes_remote d) f)
-    by_op Send e f = absurd (cc)
-    by_op Wait e f = absurd (cc)
-    by_op Enable e f = absurd (cc)
-    by_op (Undefined n) e f = absurd (cc)
+    by_op _ e f = absurd (cc)
 
 -- a written byte of memory that lies in a private space is one that the draft may write there
 pub written_byte : (home : Space → Home) (mine : Space → Bool) (size : ℕ) → LieApart home mine size → (d : Draft) (a : Side) (p : Space) (i b : ℕ) → IsSide d a → a.writes ≡ true → mine (space_of a.site) ≡ true → mine p ≡ true → is_table_space p ≡ false → In home a b → b ≡ base_of home p + i → i < room_of home p → writes_at p i d ≡ true

@@ -21,7 +21,7 @@ use Rattle.redn_window.specs.Scripts.{Behind, Wrote, IsScript, IsOver}
 use Rattle.redn_window.specs.Stages.{Gated, Standing}
 use Rattle.redn_window.specs.Windows.{Opening, bodies_of, slots_of, signals, enable_of as window_enable}
 use Rattle.redn_words.proofs.Numbers.{number-bytes_at, number-spelled, length-spelled}
-use Rattle.redn_words.proofs.Others.{row_may_raise}
+use Rattle.redn_words.specs.Others.{row_may_raise}
 use Rattle.redn_words.specs.Landings.{Change}
 use Rattle.redn_words.specs.Requests.{decoded}
 use Rattle.redn_words.specs.Words.{bytes_at, number, spelled}
@@ -299,7 +299,3 @@ module _ (c : Plan) (laid : IsLaid c) (G : Meaning c) where
           managed = λ x m q e. managed_at x q e;
           behind = λ x m event n over. let y = goes_on x m event n over in (y.0, y.1);
         }
-
-    -- and the ghost goes with them
-    pub behind_then : (x : Turn c G) (m : List ℕ) (event : List Change) (n : List ℕ) (over : IsOver (script_of c G) x m event n) → GoesTo c G x (laps_are_script.behind x m event n over).0 m n
-    behind_then x m event n over = (goes_on x m event n over).2

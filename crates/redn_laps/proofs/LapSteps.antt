@@ -5,12 +5,10 @@ use Rattle.std.proofs.lemmas.Bool.{false≢true}
 use Rattle.std.proofs.lemmas.Option.{slice_get_within}
 use Rattle.std.proofs.lemmas.List.{ext_get_or}
 use Rattle.redn_segment.proofs.SameSpace.{table_space}
-use Rattle.redn_segment.proofs.Sides.{IsSide, side_test}
 use Rattle.redn_words.specs.declared.types.Request.{Request}
 use Rattle.redn_words.specs.declared.types.Opcode.{Opcode}
 use Rattle.redn_words.specs.declared.types.Opcode.TheVariants.{Add}
 use Rattle.redn_homes.proofs.Decoding.{ready_local, ready_remote}
-use Rattle.redn_homes.proofs.Segments.{all_at}
 use Rattle.redn_homes.specs.Homes.{Granted, seen_in}
 use Rattle.redn_homes.specs.Requested.{requested, IsReady}
 use Rattle.redn_homes.specs.Segments.{IsSet, is_table_space, IsGood, GoesThrough, slot_space}
@@ -22,14 +20,15 @@ use Rattle.redn_segment.specs.Homes.{Home, IsHome}
 use Rattle.redn_segment.specs.Orders.{is_send, Follows}
 use Rattle.redn_segment.specs.Plain.{Bytes, Put, put, Outcome, Went, acts, opcode_in, first_in, local_space, remote_space}
 use Rattle.redn_segment.specs.Primed.{number_of}
-use Rattle.redn_segment.specs.Sites.{space_of, is_table}
-use Rattle.redn_words.proofs.Slots.{IsNarrow, decoded-encoded, length-encoded}
+use Rattle.redn_segment.specs.Sites.{is_table}
+use Rattle.redn_words.proofs.Slots.{decoded-encoded, length-encoded}
+use Rattle.redn_words.specs.Slots.{IsNarrow}
 use Rattle.redn_words.specs.Requests.{decoded, encoded, opcode_named}
 use Rattle.redn_words.specs.Words.{bytes_at, word, spelled, number}
 use Rattle.redn_segment.specs.declared.types.Space.{Space}
 use Rattle.redn_segment.specs.declared.types.Space.TheVariants as space
 use Rattle.redn_segment.specs.declared.types.Draft.{Draft}
-use Rattle.redn_segment.specs.declared.types.Side.{Side}
+use Rattle.redn_segment.proofs.AnyOrder.{all_at}
 
 -- a slot of which no byte may be written is its request
 pub whole_slot : (written : ℕ → Bool) (r : Request) (slot : List ℕ) → IsReady written r slot → ((i : ℕ) → written i ≡ false) → slot ≡ encoded r
@@ -51,7 +50,7 @@ pub data LapOf (number : ℕ) (r : Ring) (d : Draft) : Type 0 where
   Raises_enable : (i : ℕ) → d ≡ raise_enable number r i → LapOf number r d
   Raises_descriptor : d ≡ raise_descriptor number r → LapOf number r d
 
-some_is : (a b : Draft) → Some a ≡ Some b → b ≡ a
+pub some_is : (a b : Draft) → Some a ≡ Some b → b ≡ a
 some_is a b e = cc
 
 lap_of_two : (number : ℕ) (r : Ring) (a b d : Draft) (i : ℕ) → LapOf number r a → LapOf number r b → slice_get (a ∷ b ∷ []) i ≡ Some d → LapOf number r d
@@ -165,12 +164,6 @@ module _ (c : Plan) (laid : IsLaid c) (G : Meaning c) (promises : Promises c G) 
         let says = lap_says k d e past h.op_is in
         ap (acts chain s (slot_now k) d) says.0 ∙ h.goes chain s (slot_now k) ∙ ap (λ (n : ℕ). Went (raising h.target h.at h.scratch n s) []) says.1
 
-    -- the homes of the sides
-    mine_side : (k : ℕ) (d : Draft) (a : Side) → IsBody c r j k d → IsSide d a → c.mine (space_of a.site) ≡ true
-    mine_side k d a e its =
-        let apart = laid.apart r j x.ring_in x.segment_in in
-        side_test d (λ (b : Side). c.mine (space_of b.site)) a (all_at (both_sides (λ (b : Side). c.mine (space_of b.site))) (bodies_of r (c.ring r) j) k d apart.placed e) its
-
     two_sides : (d : Draft) (op : Opcode) → Follows d op → is_send op ≡ false → is_send d.op ≡ false
     two_sides d op (inl e) h = ap is_send (sym e) ∙ h
     two_sides d op (inr e) h = ap is_send e.0
@@ -204,12 +197,7 @@ module _ (c : Plan) (laid : IsLaid c) (G : Meaning c) (promises : Promises c G) 
       where
         table_start : (p : Space) → IsHome c.home c.regions c.domain c.size p → is_table_space p ≡ true → (c.home p).offset ≡ 0
         table_start (space.Table t) h f = h.told
-        table_start (space.Cell n) h f = absurd (false≢true f)
-        table_start space.Reply h f = absurd (false≢true f)
-        table_start space.Key h f = absurd (false≢true f)
-        table_start (space.Scratch i) h f = absurd (false≢true f)
-        table_start (space.Descriptor i) h f = absurd (false≢true f)
-        table_start (space.Slot q) h f = absurd (false≢true f)
+        table_start _ h f = absurd (false≢true f)
 
     good_went : (o : Outcome) (us : List Put) → o ≡ Went us [] → IsGood o
     good_went o us e = subst (λ (y : Outcome). IsGood y) (sym e) tt

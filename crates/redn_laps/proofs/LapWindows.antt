@@ -1,7 +1,7 @@
 -- The windows of rings with laps are orderly.
 use Rattle.std.proofs.Common.{◌≡◌, ℕ, zero, suc, ◌+◌, ◌-◌, ◌*◌, ◌%◌, ◌^◌, ◌<◌, ◌≤◌, ◌⊎◌, inl, inr, Bool, true, false, cond, ◌==◌, List, [], ◌∷◌, length, refl, sym, ap, ◌∙◌, subst, arith, length-append}
 use Rattle.std.specs.Prelude.{nat_le, nat_lt, slice_get, Some}
-use Rattle.std.proofs.lemmas.Bool.{cases_eq, eq-eqb, ne_eqb, eqb-true, and_parts, ltb-true}
+use Rattle.std.proofs.lemmas.Bool.{cases_eq, eq-eqb, ne_eqb, eqb-true, and_parts, ltb-true, le-ltb as lt_false}
 use Rattle.std.proofs.lemmas.Bool.Decides.{nat_tests}
 use Rattle.std.proofs.Math.Nat.{mul-suc, mul_comm, mul-le-mul_right}
 use Rattle.redn_words.specs.declared.types.Request.{Request}
@@ -19,7 +19,8 @@ use Rattle.redn_segment.specs.Primed.{covers}
 use Rattle.redn_window.proofs.Windows.{signals_more}
 use Rattle.redn_window.specs.Stages.{Orderly, Gated}
 use Rattle.redn_window.specs.Windows.{Opening, bodies_of, slots_of, copy_of, request_of, signals, wait_of as window_wait, enable_of as window_enable}
-use Rattle.redn_words.proofs.Slots.{IsNarrow, decoded-encoded}
+use Rattle.redn_words.proofs.Slots.{decoded-encoded}
+use Rattle.redn_words.specs.Slots.{IsNarrow}
 use Rattle.redn_words.specs.declared.limits.TheConstants.{RECEIVE_BASE}
 use Rattle.redn_words.specs.Access.{EndsBy}
 use Rattle.redn_words.specs.declared.types.Class.TheVariants as ask
@@ -53,10 +54,6 @@ first_inside name r h (suc k) j e =
 
 pub end_inside : (name : ℕ) (r : Ring) → IsRing name r → (j : ℕ) → j < r.segments → r.first j + (length (ring_bodies name r j) + gates_of name r j) ≤ r.row.slots
 end_inside name r h j l = let next = h.follows j l in let rest = first_inside name r h (r.segments - suc j) (suc j) (omega arith) in omega arith
-
--- tests of numbers
-pub lt_false : (a b : ℕ) → b ≤ a → nat_lt a b ≡ false
-lt_false a b h = grind (arith, nat_tests)
 
 pub lt_true : (a b : ℕ) → a < b → nat_lt a b ≡ true
 lt_true a b h = grind (arith, nat_tests)

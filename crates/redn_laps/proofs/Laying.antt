@@ -5,11 +5,12 @@ use Rattle.std.specs.List.{list_any, list_all}
 use Rattle.std.proofs.lemmas.Bool.{and_parts, and_from, or_cases, or_left, or_right, eq-eqb, false≢true, true≢false}
 use Rattle.std.proofs.lemmas.Option.{slice_get_within}
 use Rattle.redn_words.specs.declared.types.Opcode.{Opcode}
-use Rattle.redn_words.specs.declared.types.Opcode.TheVariants.{Noop, Write, Read, Cas, Add, Send, Wait, Enable, Undefined}
+use Rattle.redn_words.specs.declared.types.Opcode.TheVariants.{Add, Send, Wait, Enable, Undefined}
 use Rattle.redn_segment.specs.declared.types.SlotRef.{SlotRef}
 use Rattle.redn_segment.specs.declared.types.Site.{Site}
 use Rattle.redn_segment.specs.declared.types.Site.TheVariants as site
 use Rattle.redn_segment.specs.declared.types.Side.{Side}
+use Rattle.redn_segment.specs.declared.types.Space.{Space}
 use Rattle.redn_segment.specs.declared.types.Space.TheVariants as space
 use Rattle.redn_segment.specs.declared.types.Draft.{Draft}
 use Rattle.redn_segment.specs.Building.{drafts_of}
@@ -33,31 +34,29 @@ use Rattle.redn_recycle.proofs.Rising.{placed, placed_inside, refs_differ}
 use Rattle.redn_laps.specs.Plans.{Plan, IsLaid, MayWrite, IsOwn, IsBody, is_ring, body_slot}
 use Rattle.redn_laps.specs.Apart.{fills_last, written_by}
 use Rattle.redn_laps.specs.Layouts.{Layout, plan_of, IsLayout, IsRingLayout, is_named_in, has_sites, leaves_descriptors}
-use Rattle.redn_laps.proofs.Named.{both_from, all_from, all_of_both}
+use Rattle.redn_laps.proofs.Named.{both_from, all_from}
 use Rattle.redn_laps.proofs.GateSlots.{IsNamed, named}
 use Rattle.redn_laps.proofs.RingApart.{local_site, remote_site}
 use Rattle.redn_laps.proofs.RingEvents.{events_are, ring_apart}
 use Rattle.redn_laps.proofs.RingWrites.{writes_well, laps_unwritten}
-use Rattle.redn_laps.proofs.LapSteps.{slice_get_append}
-
-some_is : (a b : Draft) → Some a ≡ Some b → b ≡ a
-some_is a b e = cc
+use Rattle.redn_laps.proofs.LapSteps.{slice_get_append, some_is}
+use Rattle.redn_segment.proofs.Both.{all_append as all_of_both}
 
 -- the drafts of all segments by those of one
-all_segments : (test : Draft → Bool) (segments : List (List Draft)) → list_all (list_all test) segments ≡ true → list_all test (drafts_of segments) ≡ true
+pub all_segments : (test : Draft → Bool) (segments : List (List Draft)) → list_all (list_all test) segments ≡ true → list_all test (drafts_of segments) ≡ true
 all_segments test [] h = refl
 all_segments test (s ∷ rest) h = let parts = and_parts (list_all test s) (list_all (list_all test) rest) h in all_of_both test s (drafts_of rest) parts.0 (all_segments test rest parts.1)
 
-all_front : (test : Draft → Bool) (a b : List Draft) → list_all test (a ++ b) ≡ true → (list_all test a ≡ true) × (list_all test b ≡ true)
+pub all_front : (test : Draft → Bool) (a b : List Draft) → list_all test (a ++ b) ≡ true → (list_all test a ≡ true) × (list_all test b ≡ true)
 all_front test [] b h = (refl, h)
 all_front test (x ∷ a) b h = let parts = and_parts (test x) (list_all test (a ++ b)) h in let more = all_front test a b parts.1 in (and_from (test x) (list_all test a) parts.0 more.0, more.1)
 
-at_place : (test : Draft → Bool) (xs : List Draft) (k : ℕ) (d : Draft) → list_all test xs ≡ true → slice_get xs k ≡ Some d → test d ≡ true
+pub at_place : (test : Draft → Bool) (xs : List Draft) (k : ℕ) (d : Draft) → list_all test xs ≡ true → slice_get xs k ≡ Some d → test d ≡ true
 at_place test [] k d h e = absurd (cc)
 at_place test (x ∷ xs) zero d h e = let parts = and_parts (test x) (list_all test xs) h in ap test (some_is x d e) ∙ parts.0
 at_place test (x ∷ xs) (suc k) d h e = let parts = and_parts (test x) (list_all test xs) h in at_place test xs k d parts.1 e
 
-all_in : (test : Draft → Bool) (segments : List (List Draft)) (j k : ℕ) (d : Draft) → list_all test (drafts_of segments) ≡ true → slice_get (segment_at segments j) k ≡ Some d → test d ≡ true
+pub all_in : (test : Draft → Bool) (segments : List (List Draft)) (j k : ℕ) (d : Draft) → list_all test (drafts_of segments) ≡ true → slice_get (segment_at segments j) k ≡ Some d → test d ≡ true
 all_in test [] j k d h e = absurd (cc)
 all_in test (s ∷ rest) zero k d h e = at_place test s k d (all_front test s (drafts_of rest) h).0 e
 all_in test (s ∷ rest) (suc j) k d h e = all_in test rest j k d (all_front test s (drafts_of rest) h).1 e
@@ -97,7 +96,7 @@ none_of test one other (x ∷ xs) a b h =
     let rest = none_of test one other xs first.1 second.1 h in
     rw here rest
 
-named_at : (g : Draft → Draft) (xs : List Draft) (k : ℕ) (d : Draft) → slice_get (map g xs) k ≡ Some d → (x : Draft) × (slice_get xs k ≡ Some x) × (d ≡ g x)
+pub named_at : (g : Draft → Draft) (xs : List Draft) (k : ℕ) (d : Draft) → slice_get (map g xs) k ≡ Some d → (x : Draft) × (slice_get xs k ≡ Some x) × (d ≡ g x)
 named_at g [] k d e = absurd (cc)
 named_at g (x ∷ xs) zero d e = (x, refl, some_is (g x) d e)
 named_at g (x ∷ xs) (suc k) d e = named_at g xs k d e
@@ -112,7 +111,7 @@ module _ (number : ℕ) (r : Ring) (some : 2 ≤ r.segments) (P : Draft → Type
   of_two a b d zero x y e = subst P (sym (some_is a d e)) x
   of_two a b d (suc k) x y e = of_one b d k y e
 
-  laps_all : (j k : ℕ) (d : Draft) → j < r.segments → slice_get (lap_requests number r j) k ≡ Some d → P d
+  pub laps_all : (j k : ℕ) (d : Draft) → j < r.segments → slice_get (lap_requests number r j) k ≡ Some d → P d
   laps_all zero k d l = by_test r.sends
     where
       by_test : (b : Bool) → slice_get (cond b (raise_descriptor number r ∷ []) (raise_wait number r (r.segments - 1) ∷ raise_descriptor number r ∷ [])) k ≡ Some d → P d
@@ -125,15 +124,34 @@ module _ (number : ℕ) (r : Ring) (some : 2 ≤ r.segments) (P : Draft → Type
       by_test false e = of_two (raise_wait number r j) (raise_enable number r j) d k (waits j (omega arith)) (enables j l) e
 
 send_alone : (d : Draft) (op : Opcode) (a : Side) → remote_by d op ≡ Some a → is_send op ≡ false
-send_alone d Noop a e = refl
-send_alone d Write a e = refl
-send_alone d Read a e = refl
-send_alone d Cas a e = refl
-send_alone d Add a e = refl
 send_alone d Send a e = absurd (cc)
 send_alone d Wait a e = absurd (cc)
 send_alone d Enable a e = absurd (cc)
 send_alone d (Undefined n) a e = absurd (cc)
+send_alone d _ a e = refl
+
+-- the slots that names lead to are the chain's
+module _ (segments : List (List Draft)) (some : 2 ≤ length segments) where
+  pub lap_slot_inside : (i : ℕ) → i < length segments → (first_of segments (suc i) - 2 < slots_in_laps segments) × (first_of segments (suc i) - 1 < slots_in_laps segments)
+  lap_slot_inside i l = let up = first_le segments (suc i) (length segments) (omega arith) in let more = some_slots segments some in (omega (arith, up, more), omega (arith, up, more))
+
+  named_inside : (i : ℕ) → IsNamed segments some i → slot_in_laps segments i < slots_in_laps segments
+  named_inside i (inl below) = placed_inside segments some i (placed segments some i below)
+  named_inside i (inr last) =
+      let there = last_there segments last.0 in
+      let same : slot_in_laps segments i ≡ slot_in_laps segments (length (drafts_of segments)) = ap (slot_in_laps segments) last.1 in
+      let more = some_slots segments some in
+      omega (arith, there, same, more)
+
+  module _ (mine : Space → Bool) (number : ℕ) (slots_mine : (i : ℕ) → i < slots_in_laps segments → mine (space.Slot (slot_of number i)) ≡ true) where
+    pub site_mine : (y : Site) → names_well segments number y ≡ true → is_named_in mine y ≡ true → mine (space_of (renamed_site (ref_in_laps segments number) y)) ≡ true
+    site_mine (site.Field y) e m =
+        let name = named segments some number y.slot e in
+        let own : (y.slot.ring == number) ≡ true = eq-eqb y.slot.ring number name.0 in
+        let now : (ref_in_laps segments number) y.slot ≡ slot_of number (slot_in_laps segments y.slot.slot) = rw own (ap (λ (k : ℕ). let q : SlotRef = record { ring = k; slot = slot_in_laps segments y.slot.slot } in q) name.0) in
+        ap (λ (q : SlotRef). mine (space.Slot q)) now ∙ slots_mine (slot_in_laps segments y.slot.slot) (named_inside y.slot.slot name.1)
+    site_mine (site.Cell n) e m = m
+    site_mine _ e m = m
 
 module _ (x : Layout) (h : IsLayout x) where
   abbrev c : Plan
@@ -162,27 +180,6 @@ module _ (x : Layout) (h : IsLayout x) where
     slot_mine : (i : ℕ) → i < slots_in_laps segments → x.mine (space.Slot (slot_of r i)) ≡ true
     slot_mine i l = layout.lie.its i l
 
-    named_inside : (i : ℕ) → IsNamed segments some i → slot_in_laps segments i < slots_in_laps segments
-    named_inside i (inl below) = placed_inside segments some i (placed segments some i below)
-    named_inside i (inr last) =
-        let there = last_there segments last.0 in
-        let same : slot_in_laps segments i ≡ slot_in_laps segments (length all) = ap (slot_in_laps segments) last.1 in
-        let more = some_slots segments some in
-        omega (arith, there, same, more)
-
-    site_mine : (y : Site) → names_well segments r y ≡ true → is_named_in x.mine y ≡ true → x.mine (space_of (renamed_site f y)) ≡ true
-    site_mine (site.Field y) e m =
-        let name = named segments some r y.slot e in
-        let own : (y.slot.ring == r) ≡ true = eq-eqb y.slot.ring r name.0 in
-        let now : f y.slot ≡ slot_of r (slot_in_laps segments y.slot.slot) = rw own (ap (λ (k : ℕ). let q : SlotRef = record { ring = k; slot = slot_in_laps segments y.slot.slot } in q) name.0) in
-        ap (λ (q : SlotRef). x.mine (space.Slot q)) now ∙ slot_mine (slot_in_laps segments y.slot.slot) (named_inside y.slot.slot name.1)
-    site_mine (site.Cell n) e m = m
-    site_mine (site.ReplyWord i) e m = m
-    site_mine site.Key e m = m
-    site_mine (site.Scratch i) e m = m
-    site_mine (site.Descriptor i) e m = m
-    site_mine (site.Table t o) e m = m
-
     names_all : list_all (draft_names_well segments r) all ≡ true
     names_all = all_segments (draft_names_well segments r) segments layout.may.names
 
@@ -208,8 +205,8 @@ module _ (x : Layout) (h : IsLayout x) where
           is = n.2;
           near = names.0;
           far = names.1;
-          near_mine = ap (λ (z : Draft). x.mine (local_space z)) n.2 ∙ site_mine y.local names.0 sites.0;
-          far_mine = λ none. ap (λ (z : Draft). x.mine (remote_space z)) n.2 ∙ site_mine y.remote names.1 (by_send (is_send y.op) (is_named_in x.mine y.remote) sites.1 (ap (λ (z : Draft). is_send z.op) (sym n.2) ∙ none));
+          near_mine = ap (λ (z : Draft). x.mine (local_space z)) n.2 ∙ site_mine segments some x.mine r slot_mine y.local names.0 sites.0;
+          far_mine = λ none. ap (λ (z : Draft). x.mine (remote_space z)) n.2 ∙ site_mine segments some x.mine r slot_mine y.remote names.1 (by_send (is_send y.op) (is_named_in x.mine y.remote) sites.1 (ap (λ (z : Draft). is_send z.op) (sym n.2) ∙ none));
         }
       where
         by_send : (s m : Bool) → s || m ≡ true → s ≡ false → m ≡ true
@@ -221,15 +218,9 @@ module _ (x : Layout) (h : IsLayout x) where
       pub near : x.mine (local_space d) ≡ true
       pub far : is_send d.op ≡ false → x.mine (remote_space d) ≡ true
 
-    abbrev IsLap : ℕ → ℕ → Draft → Type 0
-    IsLap j k d = (i : ℕ) × (k ≡ length (ring.drafts j) + i) × (slice_get (lap_requests r ring j) i ≡ Some d)
-
-    lap_slot_inside : (i : ℕ) → i < length segments → (first_of segments (suc i) - 2 < slots_in_laps segments) × (first_of segments (suc i) - 1 < slots_in_laps segments)
-    lap_slot_inside i l = let up = first_le segments (suc i) (length segments) (omega arith) in let more = some_slots segments some in (omega (arith, up, more), omega (arith, up, more))
-
     lap_sides : (j i : ℕ) (d : Draft) → j < length segments → slice_get (lap_requests r ring j) i ≡ Some d → Sides d
     lap_sides j i d l e =
-        laps_all r ring some Sides (λ k m. record { near = h.scratch.0; far = λ none. slot_mine (wait_of r ring k) (lap_slot_inside k m).0 }) (λ k m. record { near = h.scratch.1; far = λ none. slot_mine (enable_of r ring k) (lap_slot_inside k (omega (arith, m))).1 }) (record { near = h.scratch.1; far = λ none. layout.own }) j i d l e
+        laps_all r ring some Sides (λ k m. record { near = h.scratch.0; far = λ none. slot_mine (wait_of r ring k) (lap_slot_inside segments some k m).0 }) (λ k m. record { near = h.scratch.1; far = λ none. slot_mine (enable_of r ring k) (lap_slot_inside segments some k (omega (arith, m))).1 }) (record { near = h.scratch.1; far = λ none. layout.own }) j i d l e
 
     body_sides : (j k : ℕ) (d : Draft) → j < length segments → IsBody c r j k d → Sides d
     body_sides j k d l e =

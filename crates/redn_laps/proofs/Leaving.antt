@@ -1,7 +1,7 @@
 -- What a whole ring's drafts meet is met by each of its segments.
-use Rattle.std.proofs.Common.{◌≡◌, ℕ, zero, suc, ◌+◌, ◌<◌, Bool, true, List, [], ◌∷◌, ◌++◌, length, refl, ap, ◌∙◌, arith}
+use Rattle.std.proofs.Common.{◌≡◌, ℕ, zero, suc, ◌+◌, ◌<◌, Bool, true, List, [], ◌∷◌, length, refl, ap, ◌∙◌, arith}
 use Rattle.std.specs.List.{list_all}
-use Rattle.std.proofs.lemmas.Bool.{and_parts, and_from}
+use Rattle.std.proofs.lemmas.Bool.{and_parts}
 use Rattle.redn_segment.specs.declared.types.Draft.{Draft}
 use Rattle.redn_segment.specs.Building.{drafts_of}
 use Rattle.redn_segment.specs.Footprints.{both_sides, spares, is_apart, segments_apart}
@@ -9,10 +9,8 @@ use Rattle.redn_segment.specs.Templates.{one_event}
 use Rattle.redn_recycle.specs.Laps.{slot_of}
 use Rattle.redn_recycle.specs.Lapped.{MayGoRound, segment_at, start_of}
 use Rattle.redn_laps.specs.Apart.{LeavesLaps, leaves_scratch, leaves_descriptor, has_flat_local}
-
-front_back : (test : Draft → Bool) (a b : List Draft) → list_all test (a ++ b) ≡ true → (list_all test a ≡ true) × (list_all test b ≡ true)
-front_back test [] b h = (refl, h)
-front_back test (x ∷ a) b h = let parts = and_parts (test x) (list_all test (a ++ b)) h in let more = front_back test a b parts.1 in (and_from (test x) (list_all test a) parts.0 more.0, more.1)
+use Rattle.redn_recycle.proofs.Starts.{start_behind}
+use Rattle.redn_laps.proofs.Laying.{all_front as front_back}
 
 pub segment_all : (test : Draft → Bool) (segments : List (List Draft)) (j : ℕ) → list_all test (drafts_of segments) ≡ true → list_all test (segment_at segments j) ≡ true
 segment_all test [] j h = refl
@@ -23,10 +21,6 @@ pub segment_each : (test : List Draft → Bool) (segments : List (List Draft)) (
 segment_each test [] j l h = absurd (omega (arith, l))
 segment_each test (s ∷ rest) zero l h = (and_parts (test s) (list_all test rest) h).0
 segment_each test (s ∷ rest) (suc j) l h = segment_each test rest j (omega (arith, l)) (and_parts (test s) (list_all test rest) h).1
-
-start_behind : (s : List Draft) (rest : List (List Draft)) (j : ℕ) → start_of (s ∷ rest) (suc j) ≡ length s + start_of rest j
-start_behind s rest zero = omega arith
-start_behind s rest (suc j) = let h : start_of (s ∷ rest) (suc j) ≡ length s + start_of rest j = start_behind s rest j in omega (arith, h)
 
 -- where the segments stand one behind the other from a slot on
 pub segment_apart : (number a : ℕ) (segments : List (List Draft)) (j : ℕ) → j < length segments → segments_apart (slot_of number a) segments ≡ true → is_apart (segment_at segments j) (slot_of number (a + start_of segments j)) ≡ true

@@ -5,7 +5,7 @@ use Rattle.std.specs.List.{list_all}
 use Rattle.std.proofs.lemmas.Bool.{and_parts, and_from}
 use Rattle.redn_segment.proofs.Sides.{IsSide}
 use Rattle.redn_words.specs.declared.types.Opcode.{Opcode}
-use Rattle.redn_words.specs.declared.types.Opcode.TheVariants.{Noop, Write, Read, Cas, Add, Send, Wait, Enable, Undefined}
+use Rattle.redn_words.specs.declared.types.Opcode.TheVariants.{Noop}
 use Rattle.redn_segment.specs.declared.types.SlotRef.{SlotRef}
 use Rattle.redn_segment.specs.declared.types.Side.{Side}
 use Rattle.redn_segment.specs.declared.types.Space.{Space}
@@ -15,6 +15,7 @@ use Rattle.redn_segment.specs.Footprints.{local_by, remote_by, holds_of, both_si
 use Rattle.redn_segment.specs.Renaming.{renamed_site, renamed_space, renamed}
 use Rattle.redn_segment.proofs.Renamed.{table_renamed, start_renamed, size_renamed, in_slot_renamed, space_renamed}
 use Rattle.redn_segment.proofs.Moved.{same_renamed}
+use Rattle.redn_segment.proofs.Both.{all_append as all_of_both}
 
 -- a test of both sides from one of each
 pub both_from : (d : Draft) (test : Side → Bool) → ((a : Side) → IsSide d a → test a ≡ true) → both_sides test d ≡ true
@@ -28,10 +29,6 @@ both_from d test h = and_from (holds_of test (local_by d d.op)) (holds_of test (
 pub all_from : {X : Type 0} (test : X → Bool) (xs : List X) → ((k : ℕ) (x : X) → slice_get xs k ≡ Some x → test x ≡ true) → list_all test xs ≡ true
 all_from test [] h = refl
 all_from test (x ∷ xs) h = and_from (test x) (list_all test xs) (h 0 x refl) (all_from test xs (λ k y e. h (suc k) y e))
-
-pub all_of_both : {X : Type 0} (test : X → Bool) (xs ys : List X) → list_all test xs ≡ true → list_all test ys ≡ true → list_all test (xs ++ ys) ≡ true
-all_of_both test [] ys a b = b
-all_of_both test (x ∷ xs) ys a b = let parts = and_parts (test x) (list_all test xs) a in and_from (test x) (list_all test (xs ++ ys)) parts.0 (all_of_both test xs ys parts.1 b)
 
 -- drafts and more drafts, each free of the others
 pub free_of_both : (ds es : List Draft) → all_free ds ≡ true → all_free es ≡ true → list_all (λ (d : Draft). list_all (drafts_free d) es) ds ≡ true → all_free (ds ++ es) ≡ true
@@ -47,25 +44,11 @@ module _ (f : SlotRef → SlotRef) where
 
   local_named : (test : Side → Bool) (d : Draft) (o : Opcode) → holds_of test (local_by (renamed f d) o) ≡ holds_of (λ (a : Side). test (side_named a)) (local_by d o)
   local_named test d Noop = refl
-  local_named test d Write = refl
-  local_named test d Read = refl
-  local_named test d Cas = refl
-  local_named test d Add = refl
-  local_named test d Send = refl
-  local_named test d Wait = refl
-  local_named test d Enable = refl
-  local_named test d (Undefined n) = refl
+  local_named test d _ = refl
 
   remote_named : (test : Side → Bool) (d : Draft) (o : Opcode) → holds_of test (remote_by (renamed f d) o) ≡ holds_of (λ (a : Side). test (side_named a)) (remote_by d o)
   remote_named test d Noop = refl
-  remote_named test d Write = refl
-  remote_named test d Read = refl
-  remote_named test d Cas = refl
-  remote_named test d Add = refl
-  remote_named test d Send = refl
-  remote_named test d Wait = refl
-  remote_named test d Enable = refl
-  remote_named test d (Undefined n) = refl
+  remote_named test d _ = refl
 
   pub both_named : (test : Side → Bool) (d : Draft) → both_sides test (renamed f d) ≡ both_sides (λ (a : Side). test (side_named a)) d
   both_named test d = λ i. local_named test d d.op i && remote_named test d d.op i

@@ -6,7 +6,7 @@ use Rattle.std.proofs.lemmas.Bool.{and_parts, and_from, eq-eqb, ne_eqb, le-leb, 
 use Rattle.std.proofs.lemmas.Bool.Decides.{nat_tests}
 use Rattle.redn_segment.proofs.Sides.{IsSide, side_test}
 use Rattle.redn_words.specs.declared.types.Opcode.{Opcode}
-use Rattle.redn_words.specs.declared.types.Opcode.TheVariants.{Noop, Write, Read, Cas, Add, Send, Wait, Enable, Undefined}
+use Rattle.redn_words.specs.declared.types.Opcode.TheVariants.{Send, Wait, Enable, Undefined}
 use Rattle.redn_segment.specs.declared.types.SlotRef.{SlotRef}
 use Rattle.redn_segment.specs.Building.{drafts_of}
 use Rattle.redn_segment.specs.declared.types.Site.{Site}
@@ -18,15 +18,17 @@ use Rattle.redn_segment.specs.Sites.{space_of, same_space}
 use Rattle.redn_segment.specs.Footprints.{local_by, remote_by, both_sides, ends_inside, is_free, drafts_free, all_free, among, spares, meet}
 use Rattle.redn_segment.specs.Renaming.{renamed_site, renamed}
 use Rattle.redn_segment.proofs.Kept.{not_true}
-use Rattle.redn_homes.proofs.Segments.{all_at}
 use Rattle.redn_recycle.specs.Laps.{Ring, slot_of, wait_of, enable_of, gates_of, lap_requests, bodies_of, raise_wait, raise_enable, raise_descriptor, is_send_last}
 use Rattle.redn_recycle.specs.Lapped.{segment_at, start_of, first_of, slots_added, sends_last, slot_in_laps, names_well, draft_names_well, ref_in_laps, ring_of}
 use Rattle.redn_recycle.proofs.Starts.{start_all, first_le, gated_all, gated_below}
 use Rattle.redn_recycle.proofs.Rings.{bodies_and_gates, one_request, first_requests, no_requests, two_requests}
 use Rattle.redn_recycle.proofs.Rising.{refs_differ}
 use Rattle.redn_laps.specs.Apart.{LeavesLaps, leaves_scratch, leaves_descriptor}
-use Rattle.redn_laps.proofs.Named.{both_from, all_of_both, free_of_both, side_named, both_named, ends_named, free_named}
+use Rattle.redn_laps.proofs.Named.{both_from, free_of_both, side_named, both_named, ends_named, free_named}
 use Rattle.redn_laps.proofs.GateSlots.{IsNamed, named, not_a_wait, not_an_enable, stays_outside}
+use Rattle.redn_laps.proofs.LapKept.{some_site}
+use Rattle.redn_segment.proofs.AnyOrder.{all_at}
+use Rattle.redn_segment.proofs.Both.{all_append as all_of_both}
 
 -- the two sides of an ADD
 abbrev near_side : Draft → Side
@@ -46,31 +48,18 @@ unmet a b e = by_writes (a.writes || b.writes)
     by_writes true = ap not none
     by_writes false = refl
 
--- the site of a side
-some_site : (b a : Side) → Some b ≡ Some a → a.site ≡ b.site
-some_site b a e = let same : b ≡ a = cc in ap (λ (x : Side). x.site) (sym same)
-
 pub local_site : (d : Draft) (op : Opcode) (a : Side) → local_by d op ≡ Some a → a.site ≡ d.local
-local_site d Noop a e = some_site _ a e
-local_site d Write a e = some_site _ a e
-local_site d Read a e = some_site _ a e
-local_site d Cas a e = some_site _ a e
-local_site d Add a e = some_site _ a e
-local_site d Send a e = some_site _ a e
 local_site d Wait a e = absurd (cc)
 local_site d Enable a e = absurd (cc)
 local_site d (Undefined n) a e = absurd (cc)
+local_site d _ a e = some_site _ a e
 
 pub remote_site : (d : Draft) (op : Opcode) (a : Side) → remote_by d op ≡ Some a → a.site ≡ d.remote
-remote_site d Noop a e = some_site _ a e
-remote_site d Write a e = some_site _ a e
-remote_site d Read a e = some_site _ a e
-remote_site d Cas a e = some_site _ a e
-remote_site d Add a e = some_site _ a e
 remote_site d Send a e = absurd (cc)
 remote_site d Wait a e = absurd (cc)
 remote_site d Enable a e = absurd (cc)
 remote_site d (Undefined n) a e = absurd (cc)
+remote_site d _ a e = some_site _ a e
 
 -- a test of a site that both sites of a draft pass
 pub site_test : (test : Site → Bool) (d : Draft) (a : Side) → IsSide d a → test d.local ≡ true → test d.remote ≡ true → test a.site ≡ true
@@ -125,11 +114,7 @@ module _ (segments : List (List Draft)) (some : 2 ≤ length segments) (number d
       let other : (slot_in_laps segments y.slot.slot == w) ≡ false = ne_eqb (slot_in_laps segments y.slot.slot) w (h y.slot.slot its.1) in
       rw own (rw own other)
   side_elsewhere (site.Cell c) w e h = refl
-  side_elsewhere (site.ReplyWord i) w e h = refl
-  side_elsewhere site.Key w e h = refl
-  side_elsewhere (site.Scratch i) w e h = refl
-  side_elsewhere (site.Descriptor i) w e h = refl
-  side_elsewhere (site.Table t o) w e h = refl
+  side_elsewhere _ w e h = refl
 
   -- spaces that aren't slots keep their names
   same_scratch : (x : Site) (i : ℕ) → same_space (space_of (renamed_site f x)) (space.Scratch i) ≡ same_space (space_of x) (space.Scratch i)

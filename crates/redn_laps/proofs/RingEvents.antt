@@ -5,7 +5,7 @@ use Rattle.std.specs.List.{list_all, list_any, position_or_len}
 use Rattle.std.proofs.lemmas.Bool.{and_parts, or_right, false≢true}
 use Rattle.std.proofs.lemmas.List.{length-map}
 use Rattle.redn_words.specs.declared.types.Opcode.{Opcode}
-use Rattle.redn_words.specs.declared.types.Opcode.TheVariants.{Noop, Write, Read, Cas, Add, Send, Wait, Enable, Undefined}
+use Rattle.redn_words.specs.declared.types.Opcode.TheVariants.{Read, Send}
 use Rattle.redn_segment.specs.declared.types.SlotRef.{SlotRef}
 use Rattle.redn_segment.specs.declared.types.Site.{Site}
 use Rattle.redn_segment.specs.declared.types.Site.TheVariants as site
@@ -19,17 +19,14 @@ use Rattle.redn_segment.specs.Templates.{may_show, may_show_by, one_event, is_sh
 use Rattle.redn_segment.proofs.Kept.{not_true}
 use Rattle.redn_segment.proofs.Renamed.{table_renamed}
 use Rattle.redn_homes.specs.Segments.{IsApart}
-use Rattle.redn_homes.proofs.Segments.{all_at}
 use Rattle.redn_recycle.specs.Laps.{Ring, lap_requests, bodies_of, gates_of}
 use Rattle.redn_recycle.specs.Lapped.{segment_at, ref_in_laps, ring_of, event_in, first_of}
 use Rattle.redn_recycle.proofs.Starts.{added_few}
 use Rattle.redn_recycle.proofs.Rings.{added_is}
 use Rattle.redn_laps.specs.Apart.{LeavesLaps, has_flat_local}
 use Rattle.redn_laps.proofs.RingApart.{inside_all, free_all, spared_all}
-use Rattle.redn_laps.proofs.LapSteps.{slice_get_append, LapOf, Raises_wait, Raises_enable, Raises_descriptor, lap_of}
-
-some_is : (a b : Draft) → Some a ≡ Some b → b ≡ a
-some_is a b e = cc
+use Rattle.redn_laps.proofs.LapSteps.{slice_get_append, LapOf, Raises_wait, Raises_enable, Raises_descriptor, lap_of, some_is}
+use Rattle.redn_segment.proofs.AnyOrder.{all_at}
 
 -- a draft with a table at its remote side may show an event
 table_shows : (d : Draft) (op : Opcode) → is_table d.remote ≡ true → may_show_by d op ≡ true
@@ -47,13 +44,7 @@ table_shows d op t = by_op op (shown d.remote t)
     by_op : (op : Opcode) → is_shown d.remote ≡ true → may_show_by d op ≡ true
     by_op Send e = refl
     by_op Read e = ap (λ (b : Bool). b || is_variable d.local) e
-    by_op Noop e = e
-    by_op Write e = e
-    by_op Cas e = e
-    by_op Add e = e
-    by_op Wait e = e
-    by_op Enable e = e
-    by_op (Undefined n) e = e
+    by_op _ e = e
 
 -- the only draft that may show an event
 event_at : (ds : List Draft) (k : ℕ) (d : Draft) → one_event ds ≡ true → slice_get ds k ≡ Some d → may_show d ≡ true → (list_any may_show ds ≡ true) × (position_or_len may_show ds ≡ k)

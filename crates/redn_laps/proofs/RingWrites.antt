@@ -31,7 +31,7 @@ use Rattle.redn_laps.proofs.GateSlots.{IsNamed, named, no_gate, behind_last, not
 use Rattle.redn_laps.proofs.RingApart.{site_test}
 
 -- the written side that has a written byte
-record Writing (d : Draft) (p : Space) (i : ℕ) : Type 0 where
+pub record Writing (d : Draft) (p : Space) (i : ℕ) : Type 0 where
   pub side : Side
   pub its : IsSide d side
   pub writes : side.writes ≡ true
@@ -39,10 +39,10 @@ record Writing (d : Draft) (p : Space) (i : ℕ) : Type 0 where
   pub low : from side ≤ i
   pub high : i < from side + side.len
 
-covered : (at len i : ℕ) → covers at len i ≡ true → (at ≤ i) × (i < at + len)
+pub covered : (at len i : ℕ) → covers at len i ≡ true → (at ≤ i) × (i < at + len)
 covered at len i e = let parts = and_parts (nat_le at i) (nat_lt i (at + len)) e in (leb-true at i parts.0, ltb-true i (at + len) parts.1)
 
-writing : (d : Draft) (p : Space) (i : ℕ) → writes_at p i d ≡ true → Writing d p i
+pub writing : (d : Draft) (p : Space) (i : ℕ) → writes_at p i d ≡ true → Writing d p i
 writing d p i e =
     elim (or_cases (same_space (local_space d) p && covers (start_of d.local + d.local_byte) (writes_local d d.op) i) (same_space (remote_space d) p && covers (start_of d.remote + d.remote_byte) (writes_remote d d.op) i) e) [
       | inl near ↦ let parts = and_parts (same_space (local_space d) p) (covers (start_of d.local + d.local_byte) (writes_local d d.op) i) near in near_by d.op refl parts.0 (covered (start_of d.local + d.local_byte) (writes_local d d.op) i parts.1)
@@ -112,11 +112,7 @@ module _ (segments : List (List Draft)) (some : 2 ≤ length segments) (number d
         space_is = ap (λ (k : ℕ). space.Slot (slot_of k y.slot.slot)) its.0;
       }
   naming (site.Cell c) q e same = absurd (false≢true same)
-  naming (site.ReplyWord i) q e same = absurd (false≢true same)
-  naming site.Key q e same = absurd (false≢true same)
-  naming (site.Scratch i) q e same = absurd (false≢true same)
-  naming (site.Descriptor i) q e same = absurd (false≢true same)
-  naming (site.Table t o) q e same = absurd (false≢true same)
+  naming _ q e same = absurd (false≢true same)
 
   -- a segment with gates
   gates_some : (j : ℕ) → j < length segments → gates_of number r j ≡ 2 → 3 ≤ slots_added segments j
@@ -139,26 +135,17 @@ module _ (segments : List (List Draft)) (some : 2 ≤ length segments) (number d
   some_side b a e = cc
 
   named_local : (d : Draft) (op : Opcode) (b : Side) → local_by (renamed f d) op ≡ Some b → (a : Side) × (local_by d op ≡ Some a) × (b ≡ side_named f a)
-  named_local d Noop b e = (_, refl, some_side _ b e)
-  named_local d Write b e = (_, refl, some_side _ b e)
-  named_local d Read b e = (_, refl, some_side _ b e)
-  named_local d Cas b e = (_, refl, some_side _ b e)
-  named_local d Add b e = (_, refl, some_side _ b e)
-  named_local d Send b e = (_, refl, some_side _ b e)
   named_local d Wait b e = absurd (cc)
   named_local d Enable b e = absurd (cc)
   named_local d (Undefined n) b e = absurd (cc)
+  named_local d _ b e = (_, refl, some_side _ b e)
 
   named_remote : (d : Draft) (op : Opcode) (b : Side) → remote_by (renamed f d) op ≡ Some b → (a : Side) × (remote_by d op ≡ Some a) × (b ≡ side_named f a)
-  named_remote d Noop b e = (_, refl, some_side _ b e)
-  named_remote d Write b e = (_, refl, some_side _ b e)
-  named_remote d Read b e = (_, refl, some_side _ b e)
-  named_remote d Cas b e = (_, refl, some_side _ b e)
-  named_remote d Add b e = (_, refl, some_side _ b e)
   named_remote d Send b e = absurd (cc)
   named_remote d Wait b e = absurd (cc)
   named_remote d Enable b e = absurd (cc)
   named_remote d (Undefined n) b e = absurd (cc)
+  named_remote d _ b e = (_, refl, some_side _ b e)
 
   named_side : (d : Draft) (b : Side) → IsSide (renamed f d) b → (a : Side) × IsSide d a × (b ≡ side_named f a)
   named_side d b (inl e) = let x = named_local d d.op b e in (x.0, inl x.1, x.2)

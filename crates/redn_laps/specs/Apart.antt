@@ -34,12 +34,14 @@ pub record LeavesLaps (segments : List (List Draft)) (number j : ℕ) : Type 0 w
   pub events : one_event (segment_at segments j) ≡ true
   pub scratch : list_all (both_sides leaves_scratch) (segment_at segments j) ≡ true
   pub descriptor : j ≡ 0 → list_all (both_sides (leaves_descriptor number)) (segment_at segments j) ≡ true
-  pub last : suc j ≡ length segments → list_all (both_sides (spares (slot_of number (start_of segments j)) (length (segment_at segments j) + 1))) (segment_at segments j) ≡ true
+  pub last : suc j ≡ length segments
+      → list_all (both_sides (spares (slot_of number (start_of segments j)) (length (segment_at segments j) + 1))) (segment_at segments j) ≡ true
 
 -- a side that writes the last ENABLE fills its operands alone
 abbrev pub fills_last : List (List Draft) → ℕ → Side → Bool
 fills_last segments number a =
-    not (a.writes && same_space (space_of a.site) (space.Slot (slot_of number (length (drafts_of segments))))) || (nat_le 40 (from a) && nat_le (from a + a.len) 56)
+    not (a.writes && same_space (space_of a.site) (space.Slot (slot_of number (length (drafts_of segments)))))
+    || (nat_le 40 (from a) && nat_le (from a + a.len) 56)
 
 -- whether a draft of a ring may write a byte of one of its slots, with laps
 abbrev pub written_by : List (List Draft) → ℕ → ℕ → ℕ → Bool

@@ -5,7 +5,7 @@ use Rattle.redn_words.specs.declared.types.Region.{Region}
 use Rattle.redn_words.specs.declared.types.Need.TheVariants.{LocalWrite, Atomic}
 use Rattle.redn_words.specs.declared.limits.TheConstants.{RECEIVE_BASE}
 use Rattle.redn_words.specs.Access.{EndsBy, grants}
-use Rattle.redn_words.proofs.Slots.{IsNarrow}
+use Rattle.redn_words.specs.Slots.{IsNarrow}
 use Rattle.redn_segment.specs.declared.types.Site.{Site}
 use Rattle.redn_segment.specs.declared.types.Site.TheVariants as site
 use Rattle.redn_segment.specs.declared.types.Space.{Space}
@@ -77,7 +77,8 @@ module _ (x : Layout) where
     pub fills : list_all (both_sides (fills_last (x.segments r) r)) (drafts_of (x.segments r)) ≡ true
     pub sites : list_all (has_sites x.mine) (drafts_of (x.segments r)) ≡ true
     pub descriptors : list_all leaves_descriptors (drafts_of (x.segments r)) ≡ true
-    pub fixed : (j k : ℕ) (d : Draft) → j < length (x.segments r) → slice_get (segment_at (x.segments r) j) k ≡ Some d → SparesFixed (writes_slot (drafts_of (x.segments r)) (slot_of r (start_of (x.segments r) j + k))) d
+    pub fixed : (j k : ℕ) (d : Draft) → j < length (x.segments r) → slice_get (segment_at (x.segments r) j) k ≡ Some d
+        → SparesFixed (writes_slot (drafts_of (x.segments r)) (slot_of r (start_of (x.segments r) j + k))) d
     pub narrow : (j k : ℕ) (d : Draft) → j < length (x.segments r) → IsBody (plan_of x) r j k d → IsNarrow (body_request (plan_of x) r j k d)
     pub own : x.mine (space.Descriptor r) ≡ true
     pub raised : grants (x.home (space.Descriptor r)).region.rights Atomic ≡ true

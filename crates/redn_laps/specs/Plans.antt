@@ -5,7 +5,7 @@ use Rattle.redn_words.specs.declared.types.Request.{Request}
 use Rattle.redn_words.specs.declared.types.Opcode.TheVariants.{Add}
 use Rattle.redn_words.specs.declared.limits.TheConstants.{RECEIVE_BASE}
 use Rattle.redn_words.specs.Access.{EndsBy}
-use Rattle.redn_words.proofs.Slots.{IsNarrow}
+use Rattle.redn_words.specs.Slots.{IsNarrow}
 use Rattle.redn_segment.specs.declared.types.SlotRef.{SlotRef}
 use Rattle.redn_segment.specs.declared.types.Space.{Space}
 use Rattle.redn_segment.specs.declared.types.Space.TheVariants as space
@@ -61,11 +61,13 @@ module _ (c : Plan) where
     pub its : c.mine p ≡ true
     pub plain : is_table_space p ≡ false
 
-  -- where a written byte of a slot may lie: in the own ring, in no WAIT, in no ENABLE but the operands of the last, and in a slot of a body only where drafts may write
+  -- where a written byte of a slot may lie: in the own ring, in no WAIT, in no ENABLE but the operands of the last, and in a slot of a body only
+  -- where drafts may write
   pub record MayWrite (r : ℕ) (q : SlotRef) (i : ℕ) : Type 0 where
     pub ring_is : q.ring ≡ r
     pub waits : (j : ℕ) → j < (c.ring r).segments → gates_of r (c.ring r) j ≡ 2 → q.slot ≢ wait_of r (c.ring r) j
-    pub enables : (j : ℕ) → j < (c.ring r).segments → gates_of r (c.ring r) j ≡ 2 → q.slot ≡ enable_of r (c.ring r) j → (suc j ≡ (c.ring r).segments) × (covers 40 16 i ≡ true)
+    pub enables : (j : ℕ) → j < (c.ring r).segments → gates_of r (c.ring r) j ≡ 2 → q.slot ≡ enable_of r (c.ring r) j
+        → (suc j ≡ (c.ring r).segments) × (covers 40 16 i ≡ true)
     pub bodies : (j k : ℕ) (d : Draft) → j < (c.ring r).segments → IsBody r j k d → q.slot ≡ body_slot r j k → c.written r q.slot i ≡ true
 
   -- what a compiler lays out
@@ -82,11 +84,16 @@ module _ (c : Plan) where
     pub apart : (r j : ℕ) → is_ring r ≡ true → j < (c.ring r).segments → IsApart c.mine r (part_of r j)
     pub narrow : (r j k : ℕ) (d : Draft) → is_ring r ≡ true → j < (c.ring r).segments → IsBody r j k d → IsNarrow (body_request r j k d)
     pub fixed : (r j k : ℕ) (d : Draft) → is_ring r ≡ true → j < (c.ring r).segments → IsBody r j k d → SparesFixed (c.written r (body_slot r j k)) d
-    pub lap_fixed : (r j k i : ℕ) → is_ring r ≡ true → j < (c.ring r).segments → length ((c.ring r).drafts j) ≤ k → k < length (bodies_of r (c.ring r) j) → c.written r (body_slot r j k) i ≡ false
-    pub sides : (r j k : ℕ) (d : Draft) → is_ring r ≡ true → j < (c.ring r).segments → IsBody r j k d → (c.mine (local_space d) ≡ true) × (is_send d.op ≡ false → c.mine (remote_space d) ≡ true)
-    pub lap_granted : (r j k : ℕ) (d : Draft) → is_ring r ≡ true → j < (c.ring r).segments → length ((c.ring r).drafts j) ≤ k → IsBody r j k d → Granted c.home Add d
-    pub writes : (r j k : ℕ) (d : Draft) (q : SlotRef) (i : ℕ) → is_ring r ≡ true → j < (c.ring r).segments → IsOwn r j k d → writes_at (space.Slot q) i d ≡ true → MayWrite r q i
+    pub lap_fixed : (r j k i : ℕ) → is_ring r ≡ true → j < (c.ring r).segments → length ((c.ring r).drafts j) ≤ k
+        → k < length (bodies_of r (c.ring r) j) → c.written r (body_slot r j k) i ≡ false
+    pub sides : (r j k : ℕ) (d : Draft) → is_ring r ≡ true → j < (c.ring r).segments → IsBody r j k d
+        → (c.mine (local_space d) ≡ true) × (is_send d.op ≡ false → c.mine (remote_space d) ≡ true)
+    pub lap_granted : (r j k : ℕ) (d : Draft) → is_ring r ≡ true → j < (c.ring r).segments → length ((c.ring r).drafts j) ≤ k → IsBody r j k d
+        → Granted c.home Add d
+    pub writes : (r j k : ℕ) (d : Draft) (q : SlotRef) (i : ℕ) → is_ring r ≡ true → j < (c.ring r).segments → IsOwn r j k d
+        → writes_at (space.Slot q) i d ≡ true → MayWrite r q i
     pub no_descriptor : (r j k : ℕ) (d : Draft) (v : ℕ) → is_ring r ≡ true → j < (c.ring r).segments → IsOwn r j k d → remote_space d ≢ space.Descriptor v
-    pub events : (r j : ℕ) → is_ring r ≡ true → j < (c.ring r).segments → ((c.ring r).event j < length ((c.ring r).drafts j)) ⊎ (length (bodies_of r (c.ring r) j) ≤ (c.ring r).event j)
+    pub events : (r j : ℕ) → is_ring r ≡ true → j < (c.ring r).segments
+        → ((c.ring r).event j < length ((c.ring r).drafts j)) ⊎ (length (bodies_of r (c.ring r) j) ≤ (c.ring r).event j)
     pub bound : (r : ℕ) → is_ring r ≡ true → (slots_in r ≤ 2 ^ 32) × ((c.ring r).segments ≤ slots_in r)
     pub few : c.most ≤ 2 ^ 62

@@ -37,8 +37,11 @@ module _ (c : Plan) where
     pub tables : Bytes
     pub bytes : HasBytes tables
     pub events : List Obs
-    pub plain : (k : ℕ) (d : Draft) → IsBody c r j k d → k ≢ (c.ring r).event j → acts c.domain s (slot_in s r j k) d (opcode_in (slot_in s r j k)) ≡ Went (each k) []
-    pub event : (d : Draft) → IsBody c r j ((c.ring r).event j) d → acts c.domain (tabled s tables) (slot_in s r j ((c.ring r).event j)) d (opcode_in (slot_in s r j ((c.ring r).event j))) ≡ Went (each ((c.ring r).event j)) events
+    pub plain : (k : ℕ) (d : Draft) → IsBody c r j k d → k ≢ (c.ring r).event j
+        → acts c.domain s (slot_in s r j k) d (opcode_in (slot_in s r j k)) ≡ Went (each k) []
+    pub event : (d : Draft) → IsBody c r j ((c.ring r).event j) d
+        → acts c.domain (tabled s tables) (slot_in s r j ((c.ring r).event j)) d (opcode_in (slot_in s r j ((c.ring r).event j)))
+        ≡ Went (each ((c.ring r).event j)) events
     pub silent : length (bodies_of r (c.ring r) j) ≤ (c.ring r).event j → events ≡ []
     pub shows : (p : Space) → IsPrivate c p → t p ≡ placed s (puts_of_first each (length (bodies_of r (c.ring r) j))) p
 
@@ -51,14 +54,22 @@ pub record Meaning (c : Plan) : Type 1 where
 module _ (c : Plan) (G : Meaning c) where
   -- what the drafts of a ring promise of the states before its segments. A lap request promises nothing: it is seen here what it does
   pub record Promises : Type 0 where
-    pub follows : (r j k : ℕ) (d : Draft) (y : G.Ghost) (s : Bytes) → is_ring c r ≡ true → j < (c.ring r).segments → G.Fine r j y s → IsOwn c r j k d → Follows d (opcode_in (slot_in c s r j k))
-    pub granted : (r j k : ℕ) (d : Draft) (y : G.Ghost) (s : Bytes) → is_ring c r ≡ true → j < (c.ring r).segments → G.Fine r j y s → IsOwn c r j k d → Granted c.home (opcode_in (slot_in c s r j k)) d
-    pub good : (r j k : ℕ) (d : Draft) (y : G.Ghost) (s : Bytes) → is_ring c r ≡ true → j < (c.ring r).segments → G.Fine r j y s → IsOwn c r j k d → IsGood (acts c.domain s (slot_in c s r j k) d (opcode_in (slot_in c s r j k)))
-    pub silent : (r j k : ℕ) (d : Draft) (y : G.Ghost) (s : Bytes) → is_ring c r ≡ true → j < (c.ring r).segments → G.Fine r j y s → IsOwn c r j k d → k ≢ (c.ring r).event j → (us : List Put) × (acts c.domain s (slot_in c s r j k) d (opcode_in (slot_in c s r j k)) ≡ Went us [])
-    pub keeps : (r j k : ℕ) (d : Draft) (y : G.Ghost) (s : Bytes) (v : ℕ) → is_ring c r ≡ true → j < (c.ring r).segments → G.Fine r j y s → IsOwn c r j k d → local_space d ≡ space.Descriptor v → acts_locally (opcode_in (slot_in c s r j k)) ≡ false
+    pub follows : (r j k : ℕ) (d : Draft) (y : G.Ghost) (s : Bytes) → is_ring c r ≡ true → j < (c.ring r).segments → G.Fine r j y s → IsOwn c r j k d
+        → Follows d (opcode_in (slot_in c s r j k))
+    pub granted : (r j k : ℕ) (d : Draft) (y : G.Ghost) (s : Bytes) → is_ring c r ≡ true → j < (c.ring r).segments → G.Fine r j y s → IsOwn c r j k d
+        → Granted c.home (opcode_in (slot_in c s r j k)) d
+    pub good : (r j k : ℕ) (d : Draft) (y : G.Ghost) (s : Bytes) → is_ring c r ≡ true → j < (c.ring r).segments → G.Fine r j y s → IsOwn c r j k d
+        → IsGood (acts c.domain s (slot_in c s r j k) d (opcode_in (slot_in c s r j k)))
+    pub silent : (r j k : ℕ) (d : Draft) (y : G.Ghost) (s : Bytes) → is_ring c r ≡ true → j < (c.ring r).segments → G.Fine r j y s → IsOwn c r j k d
+        → k ≢ (c.ring r).event j → (us : List Put) × (acts c.domain s (slot_in c s r j k) d (opcode_in (slot_in c s r j k)) ≡ Went us [])
+    pub keeps : (r j k : ℕ) (d : Draft) (y : G.Ghost) (s : Bytes) (v : ℕ) → is_ring c r ≡ true → j < (c.ring r).segments → G.Fine r j y s
+        → IsOwn c r j k d → local_space d ≡ space.Descriptor v → acts_locally (opcode_in (slot_in c s r j k)) ≡ false
     pub tables : (r j : ℕ) (y : G.Ghost) (s t : Bytes) → G.Fine r j y s → HasBytes t → ((p : Space) → IsPrivate c p → t p ≡ s p) → G.Fine r j y t
-    pub onward : (r j : ℕ) (y : G.Ghost) (s t : Bytes) → is_ring c r ≡ true → suc j < (c.ring r).segments → G.Fine r j y s → HasBytes t → (l : Leaves c r j s t) → (z : G.Ghost) × G.Then r j y s t l z × G.Fine r (suc j) z t
-    pub target : (r j : ℕ) (y : G.Ghost) (s : Bytes) → is_ring c r ≡ true → suc j ≡ (c.ring r).segments → gates_of r (c.ring r) j ≡ 2 → G.Fine r j y s → (v : ℕ) × (is_ring c v ≡ true) × (bytes_at (s (slot_space r (enable_of r (c.ring r) j))) 40 16 ≡ s (space.Descriptor v)) × ((t : Bytes) → HasBytes t → (l : Leaves c r j s t) → (z : G.Ghost) × G.Then r j y s t l z × G.Fine v 0 z t)
+    pub onward : (r j : ℕ) (y : G.Ghost) (s t : Bytes) → is_ring c r ≡ true → suc j < (c.ring r).segments → G.Fine r j y s → HasBytes t
+        → (l : Leaves c r j s t) → (z : G.Ghost) × G.Then r j y s t l z × G.Fine r (suc j) z t
+    pub target : (r j : ℕ) (y : G.Ghost) (s : Bytes) → is_ring c r ≡ true → suc j ≡ (c.ring r).segments → gates_of r (c.ring r) j ≡ 2
+        → G.Fine r j y s → (v : ℕ) × (is_ring c v ≡ true) × (bytes_at (s (slot_space r (enable_of r (c.ring r) j))) 40 16 ≡ s (space.Descriptor v))
+        × ((t : Bytes) → HasBytes t → (l : Leaves c r j s t) → (z : G.Ghost) × G.Then r j y s t l z × G.Fine v 0 z t)
 
   -- where the chain is: before a segment of a ring, and before which lap each ring is
   pub record Turn : Type 0 where
@@ -82,18 +93,28 @@ module _ (c : Plan) (G : Meaning c) where
   pub record Ready (x : Turn) (m : List ℕ) : Type 0 where
     pub size : length m ≡ c.size
     pub few : (r : ℕ) → is_ring c r ≡ true → slots_in c r * x.laps r ≤ c.most
-    pub drafts : (r j k : ℕ) (d : Draft) → is_ring c r ≡ true → j < (c.ring r).segments → IsBody c r j k d → IsReady (c.written r (body_slot c r j k)) (body_request c r j k d) (seen_in c.home m (slot_space r (body_slot c r j k)))
-    pub waits : (r j : ℕ) → is_ring c r ≡ true → j < (c.ring r).segments → gates_of r (c.ring r) j ≡ 2 → seen_in c.home m (slot_space r (wait_of r (c.ring r) j)) ≡ encoded (wait_request r (c.ring r) (count_at r (c.ring r) (x.laps r) (segment_of x r) j))
-    pub enables : (r j : ℕ) → is_ring c r ≡ true → suc j < (c.ring r).segments → seen_in c.home m (slot_space r (enable_of r (c.ring r) j)) ≡ encoded (enable_request r (c.ring r) (limit_at r (c.ring r) (x.laps r) (segment_of x r) j))
-    pub last : (r j : ℕ) → is_ring c r ≡ true → suc j ≡ (c.ring r).segments → gates_of r (c.ring r) j ≡ 2 → IsReady (covers 40 16) (last_enable r (c.ring r)) (seen_in c.home m (slot_space r (enable_of r (c.ring r) j)))
-    pub descriptors : (r : ℕ) → is_ring c r ≡ true → seen_in c.home m (space.Descriptor r) ≡ descriptor_bytes r (c.ring r) (opening_at r (c.ring r) (x.laps r) (segment_of x r))
+    pub drafts : (r j k : ℕ) (d : Draft) → is_ring c r ≡ true → j < (c.ring r).segments → IsBody c r j k d
+        → IsReady (c.written r (body_slot c r j k)) (body_request c r j k d) (seen_in c.home m (slot_space r (body_slot c r j k)))
+    pub waits : (r j : ℕ) → is_ring c r ≡ true → j < (c.ring r).segments → gates_of r (c.ring r) j ≡ 2
+        → seen_in c.home m (slot_space r (wait_of r (c.ring r) j))
+        ≡ encoded (wait_request r (c.ring r) (count_at r (c.ring r) (x.laps r) (segment_of x r) j))
+    pub enables : (r j : ℕ) → is_ring c r ≡ true → suc j < (c.ring r).segments
+        → seen_in c.home m (slot_space r (enable_of r (c.ring r) j))
+        ≡ encoded (enable_request r (c.ring r) (limit_at r (c.ring r) (x.laps r) (segment_of x r) j))
+    pub last : (r j : ℕ) → is_ring c r ≡ true → suc j ≡ (c.ring r).segments → gates_of r (c.ring r) j ≡ 2
+        → IsReady (covers 40 16) (last_enable r (c.ring r)) (seen_in c.home m (slot_space r (enable_of r (c.ring r) j)))
+    pub descriptors : (r : ℕ) → is_ring c r ≡ true
+        → seen_in c.home m (space.Descriptor r) ≡ descriptor_bytes r (c.ring r) (opening_at r (c.ring r) (x.laps r) (segment_of x r))
     pub fine : G.Fine x.ring x.segment x.ghost (seen_in c.home m)
 
-  -- how a chain goes on behind a window with gates: to the next segment of its ring, or to the first of the ring whose descriptor the last ENABLE has; and to which ghost
+  -- how a chain goes on behind a window with gates: to the next segment of its ring, or to the first of the ring whose descriptor the last ENABLE
+  -- has; and to which ghost
   pub record GoesTo (x y : Turn) (m n : List ℕ) : Type 0 where
     pub leaves : Leaves c x.ring x.segment (seen_in c.home m) (seen_in c.home n)
     pub follows : G.Then x.ring x.segment x.ghost (seen_in c.home m) (seen_in c.home n) leaves y.ghost
-    pub way : ((y.ring ≡ x.ring) × (y.segment ≡ suc x.segment)) ⊎ ((suc x.segment ≡ (c.ring x.ring).segments) × (y.segment ≡ 0) × (bytes_at (seen_in c.home m (slot_space x.ring (enable_of x.ring (c.ring x.ring) x.segment))) 40 16 ≡ seen_in c.home m (space.Descriptor y.ring)))
+    pub way : ((y.ring ≡ x.ring) × (y.segment ≡ suc x.segment)) ⊎ ((suc x.segment ≡ (c.ring x.ring).segments) × (y.segment ≡ 0)
+        × (bytes_at (seen_in c.home m (slot_space x.ring (enable_of x.ring (c.ring x.ring) x.segment))) 40 16
+        ≡ seen_in c.home m (space.Descriptor y.ring)))
 
   -- where the queues of the rings at rest stand
   abbrev pub row_at : ℕ → QueueRow

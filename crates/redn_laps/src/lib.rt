@@ -1,4 +1,6 @@
-//! Rings with laps as they are laid out in memory: their windows, lap after lap and ring after ring.
+//! Rings with laps as they are laid out in memory.
+//! The law: rings that get their laps by `with_laps` are laid out as is asked here, wherever their
+//! spaces lie apart. The windows of such rings follow one another, lap after lap and ring after ring.
 #![tactic(auto)]
 
 mod laws;

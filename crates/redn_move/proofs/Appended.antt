@@ -66,11 +66,11 @@ spares_copies : (ws : List Cell) (i n : ℕ) (q : SlotRef) → list_all (both_si
 spares_copies [] i n q = refl
 spares_copies (w ∷ ws) i n q = spares_copies ws (i + 1) n q
 
-quiet_with : (w : Cell) (ws : List Cell) (i j : ℕ) → list_all (λ (e : Draft). not (may_show (copy (site.Cell w) 0 (site.ReplyWord i) 8) && may_show e)) (copies_from j ws) ≡ true
+pub quiet_with : (w : Cell) (ws : List Cell) (i j : ℕ) → list_all (λ (e : Draft). not (may_show (copy (site.Cell w) 0 (site.ReplyWord i) 8) && may_show e)) (copies_from j ws) ≡ true
 quiet_with w [] i j = refl
 quiet_with w (v ∷ ws) i j = quiet_with w ws i (j + 1)
 
-quiet_copies : (ws : List Cell) (i : ℕ) → one_event (copies_from i ws) ≡ true
+pub quiet_copies : (ws : List Cell) (i : ℕ) → one_event (copies_from i ws) ≡ true
 quiet_copies [] i = refl
 quiet_copies (w ∷ ws) i =
     let here = quiet_with w ws i (i + 1) in

@@ -43,28 +43,24 @@ use Rattle.redn_move.specs.Moves.{move_word, add_number, add_cell, load, store, 
 
 -- which opcodes their slots have
 move_opcodes : (to : Cell) (from : Cell) → IsTarget to → tells (own 0) (move_word own to from) ≡ true
-move_opcodes (Var i) from target = refl
-move_opcodes (Hidden i) from target = refl
 move_opcodes (Argument i) from target = absurd target
 move_opcodes (Num k) from target = absurd target
+move_opcodes _ from target = refl
 
 add_number_opcodes : (to : Cell) (n : ℕ) → IsTarget to → tells (own 0) (add_number own to n) ≡ true
-add_number_opcodes (Var i) n target = refl
-add_number_opcodes (Hidden i) n target = refl
 add_number_opcodes (Argument i) n target = absurd target
 add_number_opcodes (Num k) n target = absurd target
+add_number_opcodes _ n target = refl
 
 add_cell_opcodes : (to : Cell) (by : Cell) → IsTarget to → tells (own 0) (add_cell own to by) ≡ true
-add_cell_opcodes (Var i) by target = refl
-add_cell_opcodes (Hidden i) by target = refl
 add_cell_opcodes (Argument i) by target = absurd target
 add_cell_opcodes (Num k) by target = absurd target
+add_cell_opcodes _ by target = refl
 
 load_opcodes : (to : Cell) (t : ℕ) (offset : Cell) → IsTarget to → tells (own 0) (load own to t offset) ≡ true
-load_opcodes (Var i) t offset target = refl
-load_opcodes (Hidden i) t offset target = refl
 load_opcodes (Argument i) t offset target = absurd target
 load_opcodes (Num k) t offset target = absurd target
+load_opcodes _ t offset target = refl
 
 -- x = y, and x = n
 module _ (chain : View) (s : Bytes) (to from : Cell) (target : IsTarget to) where
@@ -420,40 +416,31 @@ add_is to (Argument i) target = add_cell_is to (Argument i) target
 
 pub few_added : (by : Cell) → add_count by ≤ 2
 few_added (Num n) = omega arith
-few_added (Var i) = omega arith
-few_added (Hidden i) = omega arith
-few_added (Argument i) = omega arith
+few_added _ = omega arith
 
 pub add_slots : (slot : ℕ → SlotRef) (to by : Cell) → sum_by segment_slots (add_segments slot to by) ≡ 5 * add_count by
 add_slots slot to (Num n) = refl
-add_slots slot to (Var i) = refl
-add_slots slot to (Hidden i) = refl
-add_slots slot to (Argument i) = refl
+add_slots slot to _ = refl
 
 pub add_actions : (slot : ℕ → SlotRef) (to by : Cell) → sum_by segment_actions (add_segments slot to by) ≡ 16 * add_count by
 add_actions slot to (Num n) = refl
-add_actions slot to (Var i) = refl
-add_actions slot to (Hidden i) = refl
-add_actions slot to (Argument i) = refl
+add_actions slot to _ = refl
 
 -- what the drafts ask of the regions of their sides
 pub move_suits : (to from : Cell) → IsTarget to → suiting [] (own 0) (drafts_of (move_word own to from)) ≡ true
-move_suits (Var i) from target = refl
-move_suits (Hidden i) from target = refl
 move_suits (Argument i) from target = absurd target
 move_suits (Num n) from target = absurd target
+move_suits _ from target = refl
 
 number_suits : (to : Cell) (n : ℕ) → IsTarget to → suiting [] (own 0) (drafts_of (add_number own to n)) ≡ true
-number_suits (Var i) n target = refl
-number_suits (Hidden i) n target = refl
 number_suits (Argument i) n target = absurd target
 number_suits (Num k) n target = absurd target
+number_suits _ n target = refl
 
 cell_suits : (to by : Cell) → IsTarget to → suiting [] (own 0) (drafts_of (add_cell own to by)) ≡ true
-cell_suits (Var i) by target = refl
-cell_suits (Hidden i) by target = refl
 cell_suits (Argument i) by target = absurd target
 cell_suits (Num k) by target = absurd target
+cell_suits _ by target = refl
 
 pub add_suits : (to by : Cell) → IsTarget to → suiting [] (own 0) (drafts_of (add_segments own to by)) ≡ true
 add_suits to (Num n) target = number_suits to n target
@@ -462,10 +449,9 @@ add_suits to (Hidden i) target = cell_suits to (Hidden i) target
 add_suits to (Argument i) target = cell_suits to (Argument i) target
 
 pub load_suits : (to : Cell) (t : ℕ) (offset : Cell) → IsTarget to → suiting [] (own 0) (drafts_of (load own to t offset)) ≡ true
-load_suits (Var i) t offset target = refl
-load_suits (Hidden i) t offset target = refl
 load_suits (Argument i) t offset target = absurd target
 load_suits (Num n) t offset target = absurd target
+load_suits _ t offset target = refl
 
 pub store_suits : (t : ℕ) (offset from : Cell) → suiting (t ∷ []) (own 0) (drafts_of (store own t offset from)) ≡ true
 store_suits t offset from =

@@ -2,7 +2,7 @@
 use Rattle.std.proofs.Common.{◌≡◌, ◌≢◌, ℕ, suc, ◌+◌, ◌*◌, ◌<◌, ◌≤◌, ◌⊎◌, inl, inr, Bool, true, false, ◌&&◌, ◌||◌, ◌==◌, List, [], ◌∷◌, ◌++◌, length, map, Some, refl, sym, ap, ◌∙◌, arith}
 use Rattle.std.specs.Prelude.{slice_get, nat_lt, nat_le}
 use Rattle.std.specs.List.{flat_map, list_any}
-use Rattle.std.proofs.lemmas.Bool.{and_parts, ltb-true, leb-true, ne_eqb, false≢true, true≢false, cases_lt, cases_eq}
+use Rattle.std.proofs.lemmas.Bool.{and_parts, ltb-true, leb-true, ne_eqb, false≢true, true≢false, cases_lt, cases_eq, false_from_ne_true as none_if, or_left as first_of, or_from as none_both}
 use Rattle.redn_words.specs.declared.types.Region.{Region}
 use Rattle.redn_words.specs.Ranges.{holds, region_holds, domain_holds}
 use Rattle.redn_kernel.specs.declared.types.Program.{Program}
@@ -37,27 +37,11 @@ own_in entries c q h = by_test (holds (range c.code_base (64 * code_slots c.ring
     by_test false false true e f g k = inr (inr (held c.control_base (data_len c) q g))
     by_test false false false e f g k = absurd (false≢true k)
 
-none_if : (b : Bool) → (b ≡ true → ⊥) → b ≡ false
-none_if true f = absurd (f refl)
-none_if false f = refl
-
-third : (a b d : Bool) → d ≡ true → (a || (b || (d || false))) ≡ true
+pub third : (a b d : Bool) → d ≡ true → (a || (b || (d || false))) ≡ true
 third true b d e = refl
 third false true d e = refl
 third false false true e = refl
 third false false false e = e
-
-first_of : (a b : Bool) → a ≡ true → (a || b) ≡ true
-first_of true b e = refl
-first_of false b e = absurd (true≢false (sym e))
-
--- no item passes a test that none of them does
-none_in : {X : Type 0} (test : X → Bool) (xs : List X) → ((k : ℕ) (x : X) → slice_get xs k ≡ Some x → test x ≡ false) → list_any test xs ≡ false
-none_in test [] h = refl
-none_in test (x ∷ xs) h = let here = h 0 x refl in rw here (none_in test xs (λ k y e. h (suc k) y e))
-
-none_both : (a b : Bool) → a ≡ false → b ≡ false → (a || b) ≡ false
-none_both a b e f = rw (e, f) refl
 
 any_both : {X : Type 0} (test : X → Bool) (xs ys : List X) → list_any test xs ≡ false → list_any test ys ≡ false → list_any test (xs ++ ys) ≡ false
 any_both test [] ys a b = b

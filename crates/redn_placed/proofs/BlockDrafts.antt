@@ -1,6 +1,5 @@
 -- The drafts of a block are as laps ask.
-use Rattle.std.proofs.Common.{◌≡◌, ℕ, suc, ◌+◌, ◌-◌, ◌^◌, ◌<◌, ◌≤◌, Bool, true, ◌&&◌, List, [], ◌∷◌, ◌++◌, length, map, get_or, refl, sym, ap, ◌∙◌, subst, arith, length-append}
-use Rattle.std.specs.Prelude.{not}
+use Rattle.std.proofs.Common.{◌≡◌, ℕ, suc, ◌+◌, ◌-◌, ◌^◌, ◌<◌, ◌≤◌, Bool, true, List, [], ◌∷◌, ◌++◌, length, map, get_or, refl, sym, ap, ◌∙◌, subst, arith, length-append}
 use Rattle.std.specs.List.{list_all, All}
 use Rattle.std.proofs.lemmas.Bool.{and_parts, and_from}
 use Rattle.std.proofs.lemmas.List.{append-nil}
@@ -16,18 +15,16 @@ use Rattle.redn_graph.specs.Fits.{Things, IsFull}
 use Rattle.redn_graph.specs.Slots.{block_slots}
 use Rattle.redn_segment.specs.declared.types.SlotRef.{SlotRef}
 use Rattle.redn_segment.specs.declared.types.Draft.{Draft}
-use Rattle.redn_segment.specs.declared.types.Site.TheVariants as site
 use Rattle.redn_segment.specs.Building.{drafts_of}
-use Rattle.redn_segment.specs.Drafts.{copy}
 use Rattle.redn_segment.specs.Effects.{slot_behind, moves, adds, loads, stores, jumps, tests_low, tests_all, probes}
 use Rattle.redn_segment.specs.Footprints.{both_sides, spares}
-use Rattle.redn_segment.specs.Templates.{one_event, may_show}
+use Rattle.redn_segment.specs.Templates.{one_event}
 use Rattle.redn_move.specs.Moves as move
 use Rattle.redn_move.specs.Adding.{add_segments, add_count}
 use Rattle.redn_move.specs.Replying.{copies_from, send_words, reply}
 use Rattle.redn_move.proofs.Moving.{move_is, add_is, load_is, store_is, jump_is}
 use Rattle.redn_move.proofs.Replying.{writes_none}
-use Rattle.redn_move.proofs.Appended.{apart_reply}
+use Rattle.redn_move.proofs.Appended.{apart_reply, quiet_copies}
 use Rattle.redn_cas.specs.Tests as test
 use Rattle.redn_cas.proofs.Test48.{test48_is}
 use Rattle.redn_cas.proofs.Test64.{test64_is}
@@ -61,14 +58,6 @@ plain_sent i n (w ∷ ws) = plain_sent (i + 1) n ws
 low_sent : (m i n : ℕ) (words : List Cell) → list_all (both_sides (low_or_operand m)) (copies_from i words ++ send_words n ∷ []) ≡ true
 low_sent m i n [] = refl
 low_sent m i n (w ∷ ws) = low_sent m (i + 1) n ws
-
-quiet_with : (w : Cell) (ws : List Cell) (i j : ℕ) → list_all (λ (e : Draft). not (may_show (copy (site.Cell w) 0 (site.ReplyWord i) 8) && may_show e)) (copies_from j ws) ≡ true
-quiet_with w [] i j = refl
-quiet_with w (v ∷ ws) i j = quiet_with w ws i (j + 1)
-
-quiet_copies : (ws : List Cell) (i : ℕ) → one_event (copies_from i ws) ≡ true
-quiet_copies [] i = refl
-quiet_copies (w ∷ ws) i = let here = quiet_with w ws i (i + 1) in rw here (quiet_copies ws (i + 1))
 
 reply_fine : (at : SlotRef) (most first : ℕ) (words : List Cell) → EndFits most first (Reply words) → Fine at 0 (reply words)
 reply_fine at most first words fits =
@@ -118,17 +107,11 @@ IsQuiet segs = (q : SlotRef) (n : ℕ) → list_all (both_sides (spares q n)) (g
 
 end_quiet : (at : SlotRef) (first : ℕ) (e : End) → IsQuiet (part_segments at (end_part first e))
 end_quiet at first (Jump to) q n = refl
-end_quiet at first (Test48 left right met unmet) q n = refl
-end_quiet at first (Test64 left right met unmet) q n = refl
-end_quiet at first (Probe to t offset key hit miss) q n = refl
-end_quiet at first (Reply words) q n = refl
+end_quiet at first _ q n = refl
 
 end_some : (at : SlotRef) (first : ℕ) (e : End) → 1 ≤ length (part_segments at (end_part first e))
 end_some at first (Jump to) = omega arith
-end_some at first (Test48 left right met unmet) = omega arith
-end_some at first (Test64 left right met unmet) = omega arith
-end_some at first (Probe to t offset key hit miss) = omega arith
-end_some at first (Reply words) = omega arith
+end_some at first _ = omega arith
 
 last_behind : (xs ys : List (List Draft)) → 1 ≤ length ys → get_or (xs ++ ys) (length (xs ++ ys) - 1) [] ≡ get_or ys (length ys - 1) []
 last_behind [] ys l = refl
@@ -159,10 +142,8 @@ copies_spare r i (w ∷ ws) = copies_spare r (i + 1) ws
 
 end_spares : (n : Things) (at : SlotRef) (first r : ℕ) (e : End) → IsFull n [] e → list_all (both_sides (leaves_descriptor r)) (get_or (part_segments at (end_part first e)) 0 []) ≡ true
 end_spares n at first r (Jump to) full = absurd (omega (arith, full))
-end_spares n at first r (Test48 left right met unmet) full = refl
-end_spares n at first r (Test64 left right met unmet) full = refl
-end_spares n at first r (Probe to t offset key hit miss) full = refl
 end_spares n at first r (Reply words) full = copies_spare r 0 words
+end_spares n at first r _ full = refl
 
 first_from : (n : Things) (first r : ℕ) (is : List Instr) (e : End) (at : SlotRef) → IsFull n is e → list_all (both_sides (leaves_descriptor r)) (segment_at (segments_of first at is e) 0) ≡ true
 first_from n first r [] e at full = ap (λ (l : List (List Draft)). list_all (both_sides (leaves_descriptor r)) (get_or l 0 [])) (append-nil (part_segments at (end_part first e))) ∙ end_spares n at first r e full

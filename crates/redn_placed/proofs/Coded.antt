@@ -4,7 +4,7 @@ use Rattle.std.specs.Prelude.{slice_get, nat_lt, if◌then◌else◌}
 use Rattle.std.specs.List.{list_all, range_with_len}
 use Rattle.std.proofs.lemmas.Bool.{and_parts, ltb-true, eq-eqb, ne_eqb, true≢false}
 use Rattle.redn_words.specs.declared.types.Opcode.{Opcode}
-use Rattle.redn_words.specs.declared.types.Opcode.TheVariants.{Noop, Write, Read, Cas, Add, Send, Wait, Enable, Undefined}
+use Rattle.redn_words.specs.declared.types.Opcode.TheVariants.{Send, Wait, Enable}
 use Rattle.redn_words.specs.declared.types.Request.{Request}
 use Rattle.redn_words.specs.Requests.{encoded}
 use Rattle.redn_words.proofs.Slots.{length-encoded, length-ring}
@@ -21,43 +21,24 @@ use Rattle.redn_recycle.specs.Lapped.{segment_at, first_of, slots_added, ring_of
 use Rattle.redn_recycle.proofs.Rings.{bodies_and_gates, last_gates, inner_gates}
 use Rattle.redn_laps.proofs.LapSteps.{slice_get_append}
 use Rattle.redn_emit.specs.Layout.{is_gate, remote_key, remote_offset, side_request, request_by, gate_request, segment_requests, segment_bytes, ring_bytes}
-use Rattle.redn_placed.proofs.Narrow.{is_small, all_in, named_at, laps_all}
+use Rattle.redn_placed.proofs.Narrow.{is_small}
 use Rattle.redn_placed.proofs.Portions.{PartOf, part_flat}
+use Rattle.redn_laps.proofs.Laying.{all_in, named_at, laps_all}
 
 -- no draft is a gate
 op_plain : (op : Opcode) → number_of op < 6 → is_gate op ≡ false
 op_plain Wait l = absurd (omega (arith, l))
 op_plain Enable l = absurd (omega (arith, l))
-op_plain Noop l = refl
-op_plain Write l = refl
-op_plain Read l = refl
-op_plain Cas l = refl
-op_plain Add l = refl
-op_plain Send l = refl
-op_plain (Undefined n) l = refl
+op_plain _ l = refl
 
 module _ (at : Space → Home) where
   key_same : (d : Draft) (op : Opcode) → remote_key at d op ≡ homes.remote_key at d op
   key_same d Send = refl
-  key_same d Noop = refl
-  key_same d Write = refl
-  key_same d Read = refl
-  key_same d Cas = refl
-  key_same d Add = refl
-  key_same d Wait = refl
-  key_same d Enable = refl
-  key_same d (Undefined n) = refl
+  key_same d _ = refl
 
   offset_same : (d : Draft) (op : Opcode) → remote_offset at d op ≡ homes.remote_offset at d op
   offset_same d Send = refl
-  offset_same d Noop = refl
-  offset_same d Write = refl
-  offset_same d Read = refl
-  offset_same d Cas = refl
-  offset_same d Add = refl
-  offset_same d Wait = refl
-  offset_same d Enable = refl
-  offset_same d (Undefined n) = refl
+  offset_same d _ = refl
 
   side_same : (d : Draft) (flags : ℕ) → side_request at d flags ≡ requested at d flags
   side_same d flags = λ i. record (requested at d flags) { rkey = key_same d d.op i; remote = offset_same d d.op i }
@@ -65,13 +46,7 @@ module _ (at : Space → Home) where
   side_by : (d : Draft) (flags : ℕ) (op : Opcode) → is_gate op ≡ false → request_by at d flags op ≡ side_request at d flags
   side_by d flags Wait e = absurd (true≢false e)
   side_by d flags Enable e = absurd (true≢false e)
-  side_by d flags Noop e = refl
-  side_by d flags Write e = refl
-  side_by d flags Read e = refl
-  side_by d flags Cas e = refl
-  side_by d flags Add e = refl
-  side_by d flags Send e = refl
-  side_by d flags (Undefined n) e = refl
+  side_by d flags _ e = refl
 
   -- the request of a draft that is no gate
   request_is : (d : Draft) (flags : ℕ) → is_gate d.op ≡ false → request_by at d flags d.op ≡ requested at d flags

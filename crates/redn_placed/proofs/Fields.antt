@@ -3,75 +3,24 @@ use Rattle.std.proofs.Common.{◌≡◌, ℕ, zero, suc, ◌+◌, ◌<◌, ◌�
 use Rattle.std.specs.Prelude.{Option, Some, None, slice_get, nat_le, nat_lt}
 use Rattle.std.specs.List.{list_all}
 use Rattle.std.proofs.lemmas.Bool.{and_parts, and_from, or_cases, leb-true, ltb-true, false≢true, ne_eqb}
-use Rattle.redn_words.specs.declared.types.Opcode.{Opcode}
-use Rattle.redn_words.specs.declared.types.Opcode.TheVariants.{Noop, Write, Read, Cas, Add, Send, Wait, Enable, Undefined}
 use Rattle.redn_segment.specs.declared.types.SlotRef.{SlotRef}
 use Rattle.redn_segment.specs.declared.types.Side.{Side}
 use Rattle.redn_segment.specs.declared.types.Space.{Space}
 use Rattle.redn_segment.specs.declared.types.Space.TheVariants as space
 use Rattle.redn_segment.specs.declared.types.Draft.{Draft}
-use Rattle.redn_segment.specs.Sites.{space_of, start_of, same_space, next_slot, is_table}
+use Rattle.redn_segment.specs.Sites.{space_of, same_space, next_slot, is_table}
 use Rattle.redn_segment.specs.Effects.{slot_behind}
-use Rattle.redn_segment.specs.Plain.{local_space, remote_space}
-use Rattle.redn_segment.specs.Primed.{covers, writes_at, writes_slot, writes_local, writes_remote}
+use Rattle.redn_segment.specs.Primed.{covers, writes_at, writes_slot}
 use Rattle.redn_segment.specs.Footprints.{local_by, remote_by, holds_of, both_sides, from}
 use Rattle.redn_segment.specs.Renaming.{renamed_space, renamed, moved}
-use Rattle.redn_segment.proofs.Sides.{IsSide, side_at, side_test}
+use Rattle.redn_segment.proofs.Sides.{side_test}
 use Rattle.redn_segment.proofs.Renamed.{table_renamed, start_renamed, space_renamed}
 use Rattle.redn_segment.proofs.Moved.{same_renamed}
 use Rattle.redn_segment.proofs.Moving.{keeps, lt_moved, next}
 use Rattle.redn_homes.specs.Requested.{is_fixed, SparesFixed}
 use Rattle.redn_laps.proofs.Named.{side_named, both_named}
-
--- the written side that has a written byte
-pub record Writing (d : Draft) (p : Space) (i : ℕ) : Type 0 where
-  pub side : Side
-  pub its : IsSide d side
-  pub writes : side.writes ≡ true
-  pub there : same_space (space_of side.site) p ≡ true
-  pub low : from side ≤ i
-  pub high : i < from side + side.len
-
-covered : (at len i : ℕ) → covers at len i ≡ true → (at ≤ i) × (i < at + len)
-covered at len i e = let parts = and_parts (nat_le at i) (nat_lt i (at + len)) e in (leb-true at i parts.0, ltb-true i (at + len) parts.1)
-
-pub writing : (d : Draft) (p : Space) (i : ℕ) → writes_at p i d ≡ true → Writing d p i
-writing d p i e =
-    elim (or_cases (same_space (local_space d) p && covers (start_of d.local + d.local_byte) (writes_local d d.op) i) (same_space (remote_space d) p && covers (start_of d.remote + d.remote_byte) (writes_remote d d.op) i) e) [
-      | inl near ↦ let parts = and_parts (same_space (local_space d) p) (covers (start_of d.local + d.local_byte) (writes_local d d.op) i) near in near_by d.op refl parts.0 (covered (start_of d.local + d.local_byte) (writes_local d d.op) i parts.1)
-      | inr far ↦ let parts = and_parts (same_space (remote_space d) p) (covers (start_of d.remote + d.remote_byte) (writes_remote d d.op) i) far in far_by d.op refl parts.0 (covered (start_of d.remote + d.remote_byte) (writes_remote d d.op) i parts.1)
-    ]
-  where
-    near_side : (len : ℕ) → local_by d d.op ≡ Some (side_at d.local d.local_byte len true) → same_space (local_space d) p ≡ true → start_of d.local + d.local_byte ≤ i → i < (start_of d.local + d.local_byte) + len → Writing d p i
-    near_side len is same low high = record { side = side_at d.local d.local_byte len true; its = inl is; writes = refl; there = same; low = low; high = high }
-
-    far_side : (len : ℕ) → remote_by d d.op ≡ Some (side_at d.remote d.remote_byte len true) → same_space (remote_space d) p ≡ true → start_of d.remote + d.remote_byte ≤ i → i < (start_of d.remote + d.remote_byte) + len → Writing d p i
-    far_side len is same low high = record { side = side_at d.remote d.remote_byte len true; its = inr is; writes = refl; there = same; low = low; high = high }
-
-    long : (op : Opcode) (at n : ℕ) → d.op ≡ op → (w : Opcode → ℕ) → i < at + w d.op → w op ≡ n → i < at + n
-    long op at n e w h f = let same : w d.op ≡ n = ap w e ∙ f in omega (arith, h, same)
-
-    near_by : (op : Opcode) → d.op ≡ op → same_space (local_space d) p ≡ true → (start_of d.local + d.local_byte ≤ i) × (i < (start_of d.local + d.local_byte) + writes_local d d.op) → Writing d p i
-    near_by Noop f same c = near_side d.length (ap (local_by d) f) same c.0 (long Noop (start_of d.local + d.local_byte) d.length f (writes_local d) c.1 refl)
-    near_by Read f same c = near_side d.length (ap (local_by d) f) same c.0 (long Read (start_of d.local + d.local_byte) d.length f (writes_local d) c.1 refl)
-    near_by Cas f same c = near_side 8 (ap (local_by d) f) same c.0 (long Cas (start_of d.local + d.local_byte) 8 f (writes_local d) c.1 refl)
-    near_by Add f same c = near_side 8 (ap (local_by d) f) same c.0 (long Add (start_of d.local + d.local_byte) 8 f (writes_local d) c.1 refl)
-    near_by Write f same c = let h = long Write (start_of d.local + d.local_byte) 0 f (writes_local d) c.1 refl in let low = c.0 in absurd (omega (arith, h, low))
-    near_by Send f same c = let h = long Send (start_of d.local + d.local_byte) 0 f (writes_local d) c.1 refl in let low = c.0 in absurd (omega (arith, h, low))
-    near_by Wait f same c = let h = long Wait (start_of d.local + d.local_byte) 0 f (writes_local d) c.1 refl in let low = c.0 in absurd (omega (arith, h, low))
-    near_by Enable f same c = let h = long Enable (start_of d.local + d.local_byte) 0 f (writes_local d) c.1 refl in let low = c.0 in absurd (omega (arith, h, low))
-    near_by (Undefined n) f same c = let h = long (Undefined n) (start_of d.local + d.local_byte) 0 f (writes_local d) c.1 refl in let low = c.0 in absurd (omega (arith, h, low))
-
-    far_by : (op : Opcode) → d.op ≡ op → same_space (remote_space d) p ≡ true → (start_of d.remote + d.remote_byte ≤ i) × (i < (start_of d.remote + d.remote_byte) + writes_remote d d.op) → Writing d p i
-    far_by Noop f same c = far_side d.length (ap (remote_by d) f) same c.0 (long Noop (start_of d.remote + d.remote_byte) d.length f (writes_remote d) c.1 refl)
-    far_by Write f same c = far_side d.length (ap (remote_by d) f) same c.0 (long Write (start_of d.remote + d.remote_byte) d.length f (writes_remote d) c.1 refl)
-    far_by Cas f same c = far_side 8 (ap (remote_by d) f) same c.0 (long Cas (start_of d.remote + d.remote_byte) 8 f (writes_remote d) c.1 refl)
-    far_by Add f same c = far_side 8 (ap (remote_by d) f) same c.0 (long Add (start_of d.remote + d.remote_byte) 8 f (writes_remote d) c.1 refl)
-    far_by Read f same c = let h = long Read (start_of d.remote + d.remote_byte) 0 f (writes_remote d) c.1 refl in let low = c.0 in absurd (omega (arith, h, low))
-    far_by Send f same c = let h = long Send (start_of d.remote + d.remote_byte) 0 f (writes_remote d) c.1 refl in let low = c.0 in absurd (omega (arith, h, low))
-    far_by Wait f same c = let h = long Wait (start_of d.remote + d.remote_byte) 0 f (writes_remote d) c.1 refl in let low = c.0 in absurd (omega (arith, h, low))
-    far_by Enable f same c = let h = long Enable (start_of d.remote + d.remote_byte) 0 f (writes_remote d) c.1 refl in let low = c.0 in absurd (omega (arith, h, low))
-    far_by (Undefined n) f same c = let h = long (Undefined n) (start_of d.remote + d.remote_byte) 0 f (writes_remote d) c.1 refl in let low = c.0 in absurd (omega (arith, h, low))
+use Rattle.redn_laps.proofs.RingWrites.{Writing, writing, covered}
+use Rattle.redn_segment.proofs.Composing.{behind_next as next_behind}
 
 -- a side writes none of these bytes of a slot
 abbrev pub is_clear : SlotRef → ℕ → ℕ → Side → Bool
@@ -148,9 +97,6 @@ all_spared q d i (e ∷ es) h fixed =
 abbrev pub KeepsFixed : SlotRef → List Draft → List Draft → Type 0
 KeepsFixed at all ds = (k : ℕ) (d : Draft) → slice_get ds k ≡ Some d → SparesFixed (writes_slot all (slot_behind at k)) d
 
-next_behind : (at : SlotRef) (k : ℕ) → slot_behind (next_slot at) k ≡ slot_behind at (suc k)
-next_behind at k = ap (λ (n : ℕ). let q : SlotRef = record { ring = at.ring; slot = n } in q) (let e : (at.slot + 1) + k ≡ at.slot + suc k = omega arith in e)
-
 none_behind : (at : SlotRef) → at ≡ slot_behind at 0
 none_behind at = ap (λ (n : ℕ). let q : SlotRef = record { ring = at.ring; slot = n } in q) (let e : at.slot ≡ at.slot + 0 = omega arith in e)
 
@@ -189,11 +135,7 @@ low_other n (space.Slot r) q l h =
     both_false true = refl
     both_false false = refl
 low_other n (space.Cell c) q l h = refl
-low_other n space.Reply q l h = refl
-low_other n space.Key q l h = refl
-low_other n (space.Scratch i) q l h = refl
-low_other n (space.Descriptor i) q l h = refl
-low_other n (space.Table t) q l h = refl
+low_other n _ q l h = refl
 
 fills_side : (n : ℕ) (q : SlotRef) (a : Side) → n ≤ q.slot → low_or_operand n a ≡ true → fills q a ≡ true
 fills_side n q a l h = by_test a.writes (is_low n (space_of a.site)) (is_operand a) h (low_other n (space_of a.site) q l)

@@ -8,7 +8,7 @@ use Rattle.redn_words.specs.declared.types.Kind.TheVariants as kind
 use Rattle.redn_words.specs.declared.types.Need.{Need}
 use Rattle.redn_words.specs.declared.types.Need.TheVariants.{Any, LocalWrite, RemoteRead, RemoteWrite, Atomic}
 use Rattle.redn_words.specs.Access.{grants}
-use Rattle.redn_kernel.specs.declared.types.Cell.TheVariants.{Var, Hidden, Argument, Num}
+use Rattle.redn_kernel.specs.declared.types.Cell.TheVariants.{Var, Argument}
 use Rattle.redn_kernel.specs.declared.types.TableInit.{TableInit}
 use Rattle.redn_kernel.specs.declared.types.Program.{Program}
 use Rattle.redn_kernel.specs.Program.{is_writable}
@@ -24,32 +24,21 @@ use Rattle.redn_placed.proofs.Spaces.{has_table}
 use Rattle.redn_placed.proofs.Whole.{stands}
 
 words_grant : (written : List ℕ) (need : Need) → allows written kind.Control need ≡ true → grants 13 need ≡ true
-words_grant written Any h = refl
-words_grant written LocalWrite h = refl
 words_grant written RemoteRead h = absurd (false≢true h)
-words_grant written RemoteWrite h = refl
-words_grant written Atomic h = refl
+words_grant written _ h = refl
 
 vars_grant : (written : List ℕ) (need : Need) → allows written kind.Vars need ≡ true → grants 13 need ≡ true
-vars_grant written Any h = refl
-vars_grant written LocalWrite h = refl
 vars_grant written RemoteRead h = absurd (false≢true h)
-vars_grant written RemoteWrite h = refl
-vars_grant written Atomic h = refl
+vars_grant written _ h = refl
 
 code_grants : (written : List ℕ) (need : Need) → allows written kind.Code need ≡ true → grants 12 need ≡ true
-code_grants written Any h = refl
 code_grants written LocalWrite h = absurd (false≢true h)
 code_grants written RemoteRead h = absurd (false≢true h)
-code_grants written RemoteWrite h = refl
-code_grants written Atomic h = refl
+code_grants written _ h = refl
 
 message_grants : (written : List ℕ) (need : Need) → allows written kind.Message need ≡ true → grants 0 need ≡ true
 message_grants written Any h = refl
-message_grants written LocalWrite h = absurd (false≢true h)
-message_grants written RemoteRead h = absurd (false≢true h)
-message_grants written RemoteWrite h = absurd (false≢true h)
-message_grants written Atomic h = absurd (false≢true h)
+message_grants written _ h = absurd (false≢true h)
 
 table_grants : (written : List ℕ) (t : ℕ) (writable : Bool) → (allows written (kind.Table t) RemoteWrite ≡ true → writable ≡ true) → (need : Need) → allows written (kind.Table t) need ≡ true → grants (table_rights writable) need ≡ true
 table_grants written t writable f Any h = refl
@@ -62,18 +51,14 @@ table_grants written t writable f Atomic h = absurd (false≢true h)
 module _ (p : Program) (graphs : List Graph) (are : AreSound p graphs) (i : ℕ) (c : ChainPlan) (there : slice_get (plans p graphs) i ≡ Some c) (written : List ℕ) (may : AreWritable p written) where
   granted : (x : Space) (need : Need) → has_space c x ≡ true → allows written (kind_of x) need ≡ true → grants (home c (tables p graphs) x).region.rights need ≡ true
   granted (space.Slot q) need has h = code_grants written need h
-  granted (space.Scratch k) need has h = words_grant written need h
-  granted space.Key need has h = words_grant written need h
-  granted space.Reply need has h = words_grant written need h
-  granted (space.Descriptor r) need has h = words_grant written need h
-  granted (space.Cell (Hidden k)) need has h = words_grant written need h
-  granted (space.Cell (Num n)) need has h = words_grant written need h
   granted (space.Cell (Var v)) need has h = vars_grant written need h
   granted (space.Cell (Argument v)) need has h = message_grants written need h
   granted (space.Table t) need has h =
       let its = has_table c (tables_base p graphs) (length (memory p graphs)) p.tables (stands p graphs are i c there) t has in
       let rights : (home c (tables p graphs) (space.Table t)).region.rights ≡ table_rights its.plan.writable = ap (λ (r : Region). r.rights) its.region in
       ap (λ (n : ℕ). grants n need) rights ∙ table_grants written t its.plan.writable (λ w. its.is.writable_is ∙ ap is_writable (sym its.is.init_at) ∙ may t w) need h
+  granted (space.Cell _) need has h = words_grant written need h
+  granted _ need has h = words_grant written need h
 
 pub all_granted : AllGranted
 all_granted p graphs are i c there written may x need has h = granted p graphs are i c there written may x need has h

@@ -1,7 +1,7 @@
 -- The homes of a chain's spaces, and which bytes are the chain's own.
 use Rattle.std.proofs.Common.{◌≡◌, ℕ, zero, suc, ◌+◌, ◌-◌, ◌*◌, ◌%◌, ◌<◌, ◌≤◌, Bool, true, false, ◌||◌, List, [], ◌∷◌, length, map, get_or, Some, refl, sym, ap, ◌∙◌, arith}
 use Rattle.std.specs.Prelude.{slice_get, nat_lt, nat_le}
-use Rattle.std.proofs.lemmas.Bool.{true≢false, and_parts, and_from, lt-ltb, le-leb, ltb-true}
+use Rattle.std.proofs.lemmas.Bool.{true≢false, and_parts, and_from, lt-ltb, le-leb, ltb-true, or_left as first_of}
 use Rattle.redn_words.specs.declared.types.Region.{Region}
 use Rattle.redn_words.specs.declared.types.Kind.TheVariants as kind
 use Rattle.redn_words.specs.Ranges.{holds}
@@ -29,10 +29,6 @@ third false true d e = refl
 third false false true e = refl
 third false false false e = e
 
-first_of : (a b : Bool) → a ≡ true → (a || b) ≡ true
-first_of true b e = refl
-first_of false b e = absurd (true≢false (sym e))
-
 pub in_range : (at len q : ℕ) → at ≤ q → q < at + len → holds (range at len) q ≡ true
 in_range at len q a b = and_from (nat_le at q) (nat_lt q (at + len)) (le-leb at q a) (lt-ltb q (at + len) b)
 
@@ -43,12 +39,6 @@ module _ (c : ChainPlan) (tables_at size : ℕ) (ts : List TableInit) (stands : 
   -- the row of each space is one of the chain's
   row_in : (p : Space) → has_space c p ≡ true → Among (home c its p).region (chain_rows c its)
   row_in (space.Slot q) h = (1, refl)
-  row_in (space.Scratch i) h = (2, refl)
-  row_in space.Key h = (2, refl)
-  row_in space.Reply h = (2, refl)
-  row_in (space.Descriptor r) h = (2, refl)
-  row_in (space.Cell (Hidden k)) h = (2, refl)
-  row_in (space.Cell (Num n)) h = (2, refl)
   row_in (space.Cell (Var i)) h = (0, refl)
   row_in (space.Cell (Argument i)) h = (3, refl)
   row_in (space.Table t) h =
@@ -59,6 +49,8 @@ module _ (c : ChainPlan) (tables_at size : ℕ) (ts : List TableInit) (stands : 
       row_at [] k u e = absurd (cc)
       row_at (x ∷ us) zero u e = let same : x ≡ u = cc in ap (λ (y : TablePlan). Some (table_row c y)) same
       row_at (x ∷ us) (suc k) u e = row_at us k u e
+  row_in (space.Cell _) h = (2, refl)
+  row_in _ h = (2, refl)
 
   -- where a space lies in its region
   record Sits (p : Space) : Type 0 where
@@ -146,16 +138,10 @@ module _ (c : ChainPlan) (tables_at size : ℕ) (ts : List TableInit) (stands : 
       }
 
   zone_plain : (p : Space) → is_table_space p ≡ false → zone p < 9
-  zone_plain (space.Slot q) e = omega arith
-  zone_plain (space.Scratch i) e = omega arith
-  zone_plain space.Key e = omega arith
-  zone_plain space.Reply e = omega arith
-  zone_plain (space.Descriptor r) e = omega arith
-  zone_plain (space.Cell (Hidden k)) e = omega arith
-  zone_plain (space.Cell (Num n)) e = omega arith
-  zone_plain (space.Cell (Var i)) e = omega arith
-  zone_plain (space.Cell (Argument i)) e = omega arith
   zone_plain (space.Table t) e = absurd (true≢false e)
+  zone_plain (space.Cell (Hidden k)) e = omega arith
+  zone_plain (space.Cell _) e = omega arith
+  zone_plain _ e = omega arith
 
   -- all spaces but slots and tables lie among the words
   own_word : (entries : ℕ) (p : Space) (i : ℕ) → has_space c p ≡ true → is_table_space p ≡ false → 1 ≤ zone p → i < room_of (home c its) p → is_own entries c (base_of (home c its) p + i) ≡ true

@@ -1,5 +1,5 @@
 -- Rows are found by their keys.
-use Rattle.std.proofs.Common.{◌≡◌, ℕ, zero, suc, ◌+◌, true, false, ◌==◌, List, [], ◌∷◌, ◌++◌, map, Some, refl, sym, ap, ◌∙◌, arith}
+use Rattle.std.proofs.Common.{◌≡◌, ℕ, zero, suc, ◌+◌, true, false, ◌==◌, List, [], ◌∷◌, ◌++◌, map, Some, sym, ap, ◌∙◌, arith}
 use Rattle.std.specs.Prelude.{slice_get}
 use Rattle.std.specs.List.{flat_map}
 use Rattle.std.proofs.lemmas.Bool.{eq-eqb, ne_eqb}
@@ -11,9 +11,6 @@ use Rattle.redn_emit.proofs.RowRules.{KeysFrom}
 -- an item of a list, at some place
 abbrev pub Among : {X : Type 0} → X → List X → Type 0
 Among x xs = (i : ℕ) × (slice_get xs i ≡ Some x)
-
-pub among_head : {X : Type 0} (x : X) (xs : List X) → Among x (x ∷ xs)
-among_head x xs = (0, refl)
 
 pub among_tail : {X : Type 0} (x y : X) (xs : List X) → Among x xs → Among x (y ∷ xs)
 among_tail x y xs h = (suc h.0, h.1)

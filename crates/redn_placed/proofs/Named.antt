@@ -25,9 +25,9 @@ use Rattle.redn_segment.proofs.Growing.{drafts_append}
 use Rattle.redn_move.specs.Replying.{copies_from, send_words}
 use Rattle.redn_block.specs.Blocks.{instr_part, end_part, part_segments, part_size, all_segments, ring_start, ring_of, block_segments}
 use Rattle.redn_laps.specs.Layouts.{has_sites}
-use Rattle.redn_laps.proofs.Named.{all_of_both}
 use Rattle.redn_emit.specs.Layout.{number_in}
 use Rattle.redn_placed.proofs.Numbers.{Reads, stands_in}
+use Rattle.redn_segment.proofs.Both.{all_append as all_of_both}
 
 -- what a chain has, where its blocks name it
 pub record HasThings (mine : Space → Bool) (cs : List ℕ) (n : Things) (first : ℕ) : Type 0 where
@@ -42,7 +42,7 @@ pub record HasThings (mine : Space → Bool) (cs : List ℕ) (n : Things) (first
   pub scratch : (mine (space.Scratch 0) ≡ true) × (mine (space.Scratch 1) ≡ true)
 
 -- a table that may be written is there
-writable_there : (ts : List TableInit) (t : ℕ) → is_writable (slice_get ts t) ≡ true → t < length ts
+pub writable_there : (ts : List TableInit) (t : ℕ) → is_writable (slice_get ts t) ≡ true → t < length ts
 writable_there [] t h = absurd (false≢true h)
 writable_there (x ∷ ts) zero h = omega arith
 writable_there (x ∷ ts) (suc t) h = let rest = writable_there ts t h in omega (arith, rest)
@@ -58,8 +58,7 @@ module _ (mine : Space → Bool) (cs : List ℕ) (n : Things) (first : ℕ) (has
   written_cell : (x : Cell) → IsTarget n x → mine (space.Cell x) ≡ true
   written_cell (cell.Var x) h = has.vars x h
   written_cell (cell.Hidden k) h = has.hidden k h
-  written_cell (cell.Argument i) h = absurd h
-  written_cell (cell.Num v) h = absurd h
+  written_cell _ h = absurd h
 
   abbrev Named : List Draft → Type 0
   Named ds = list_all (has_sites mine) ds ≡ true

@@ -1,8 +1,8 @@
 -- What laps ask of drafts, part by part and for a whole block.
-use Rattle.std.proofs.Common.{◌≡◌, ℕ, ◌+◌, ◌<◌, ◌≤◌, inl, inr, Bool, true, false, not, ◌&&◌, ◌||◌, ◌==◌, List, [], ◌∷◌, ◌++◌, length, refl, sym, ap, ◌∙◌, subst, arith, length-append}
+use Rattle.std.proofs.Common.{◌≡◌, ℕ, ◌+◌, ◌<◌, ◌≤◌, inl, inr, Bool, true, false, not, ◌&&◌, ◌||◌, ◌==◌, List, ◌++◌, length, refl, sym, ap, ◌∙◌, subst, arith, length-append}
 use Rattle.std.specs.Prelude.{nat_le, nat_lt}
 use Rattle.std.specs.List.{list_all}
-use Rattle.std.proofs.lemmas.Bool.{and_parts, and_from, or_cases, eqb-true, eq-eqb, leb-true, ltb-true, le-leb, lt-ltb}
+use Rattle.std.proofs.lemmas.Bool.{and_parts, and_from, or_cases, eqb-true, eq-eqb, leb-true, ltb-true, le-leb, lt-ltb, false_from_ne_true as none_if}
 use Rattle.std.proofs.lemmas.Option.{slice_get_within}
 use Rattle.redn_segment.specs.declared.types.SlotRef.{SlotRef}
 use Rattle.redn_segment.specs.declared.types.Space.{Space}
@@ -12,7 +12,7 @@ use Rattle.redn_segment.specs.declared.types.Side.{Side}
 use Rattle.redn_segment.specs.declared.types.Draft.{Draft}
 use Rattle.redn_segment.specs.Building.{drafts_of}
 use Rattle.redn_segment.specs.Plain.{Bytes, View}
-use Rattle.redn_segment.specs.Primed.{writes_slot, writes_at}
+use Rattle.redn_segment.specs.Primed.{writes_slot}
 use Rattle.redn_segment.specs.Effects.{Effect, slot_behind, is_own}
 use Rattle.redn_segment.specs.Footprints.{both_sides, segments_apart}
 use Rattle.redn_segment.specs.Parts.{WritesWithin}
@@ -25,9 +25,10 @@ use Rattle.redn_segment.proofs.Appending.{IsTemplate}
 use Rattle.redn_block.specs.Blocks.{slots_from}
 use Rattle.redn_laps.specs.Apart.{leaves_scratch, has_flat_local}
 use Rattle.redn_laps.specs.Layouts.{leaves_descriptors}
-use Rattle.redn_laps.proofs.Named.{all_of_both}
 use Rattle.redn_laps.proofs.LapSteps.{slice_get_append}
 use Rattle.redn_placed.proofs.Fields.{keeps_fixed, KeepsFixed, keeps_each, low_or_operand, is_low, is_operand, all_sides, keeps_moved, lows_moved}
+use Rattle.redn_segment.proofs.Composing.{writes_both}
+use Rattle.redn_segment.proofs.Both.{all_append as all_of_both}
 
 -- no table at a local side, no scratch word of lap requests, and no descriptor written
 abbrev pub is_plain : Draft → Bool
@@ -62,15 +63,6 @@ module _ (template : (ℕ → SlotRef) → List (List Draft)) (effect : (ℕ →
         low = subst (λ (n : ℕ). list_all (both_sides (low_or_operand (first + n))) (drafts_of (template (slots_from at))) ≡ true) (sym (is.drafts_are (slots_from at))) (in_place ring first (λ (q : SlotRef) (slot : ℕ → SlotRef). list_all (both_sides (low_or_operand (first + drafts))) (drafts_of (template slot)) ≡ true) low_there);
       }
 
--- one after the other
-writes_both : (ds es : List Draft) (q : SlotRef) (i : ℕ) → writes_slot (ds ++ es) q i ≡ (writes_slot ds q i || writes_slot es q i)
-writes_both [] es q i = refl
-writes_both (d ∷ ds) es q i = ap (λ (b : Bool). writes_at (space.Slot q) i d || b) (writes_both ds es q i) ∙ regroup (writes_at (space.Slot q) i d) (writes_slot ds q i) (writes_slot es q i)
-  where
-    regroup : (a b c : Bool) → (a || (b || c)) ≡ ((a || b) || c)
-    regroup true b c = refl
-    regroup false b c = refl
-
 pub record OwnSlot (at : SlotRef) (n : ℕ) (q : SlotRef) : Type 0 where
   pub ring_is : q.ring ≡ at.ring
   pub above : at.slot ≤ q.slot
@@ -85,10 +77,6 @@ own_slot at n q h =
 is_own_slot : (at : SlotRef) (n : ℕ) (q : SlotRef) → OwnSlot at n q → is_own at n (space.Slot q) ≡ true
 is_own_slot at n q o =
     and_from (q.ring == at.ring) (nat_le at.slot q.slot && nat_lt q.slot (at.slot + n)) (eq-eqb q.ring at.ring o.ring_is) (and_from (nat_le at.slot q.slot) (nat_lt q.slot (at.slot + n)) (le-leb at.slot q.slot o.above) (lt-ltb q.slot (at.slot + n) o.below))
-
-none_if : (b : Bool) → (b ≡ true → ⊥) → b ≡ false
-none_if true f = absurd (f refl)
-none_if false f = refl
 
 low_more : (m n : ℕ) → m ≤ n → (a : Side) → low_or_operand m a ≡ true → low_or_operand n a ≡ true
 low_more m n l a h = by_test a.writes (is_low m (space_of a.site)) (is_low n (space_of a.site)) (is_operand a) (space_more (space_of a.site)) h

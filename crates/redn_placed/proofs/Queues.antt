@@ -24,6 +24,7 @@ use Rattle.redn_placed.proofs.Homes.{in_range}
 use Rattle.redn_placed.proofs.Lengths.{count}
 use Rattle.redn_placed.proofs.Whole.{chain, rings_are}
 use Rattle.redn_placed.proofs.Began.{got}
+use Rattle.redn_placed.proofs.Beside.{third}
 
 got_front : {X : Type 0} (xs ys : List X) (k : ℕ) (x : X) → slice_get xs k ≡ Some x → slice_get (xs ++ ys) k ≡ Some x
 got_front [] ys k x e = absurd (cc)
@@ -213,12 +214,6 @@ module _ (p : Program) (graphs : List Graph) (are : AreSound p graphs) where
         let low = (chain p graphs are i c there).can.entry in
         let long : length c.rings ≡ length (chain p graphs are i c there).graph.blocks = ap length (rings_are p graphs are i c there) ∙ length-rings c.first c.first (chain p graphs are i c there).graph.blocks in
         omega (arith, is, low, long)
-
-    third : (a b d : Bool) → d ≡ true → (a || (b || (d || false))) ≡ true
-    third true b d e = refl
-    third false true d e = refl
-    third false false true e = refl
-    third false false false e = e
 
     second : (a b d : Bool) → b ≡ true → (a || (b || (d || false))) ≡ true
     second true b d e = refl

@@ -51,38 +51,25 @@ at_slot i = record { ring = 0; slot = i }
 abbrev name_of : Space → SlotRef
 name_of (space.Slot q) = q
 name_of (space.Scratch i) = at_slot i
-name_of space.Key = at_slot 0
-name_of space.Reply = at_slot 0
 name_of (space.Descriptor r) = at_slot r
 name_of (space.Cell x) = at_slot (number_of_cell x)
 name_of (space.Table t) = at_slot t
+name_of _ = at_slot 0
 
 abbrev named_by : ℕ → SlotRef → Space
 named_by z q = get_or (space.Slot q ∷ space.Scratch q.slot ∷ space.Key ∷ space.Reply ∷ space.Descriptor q.slot ∷ space.Cell (Hidden q.slot) ∷ space.Cell (Num q.slot) ∷ space.Cell (Var q.slot) ∷ space.Cell (Argument q.slot) ∷ space.Table q.slot ∷ []) z space.Key
 
 is_named : (p : Space) → p ≡ named_by (zone p) (name_of p)
 is_named (space.Slot q) = refl
-is_named (space.Scratch i) = refl
-is_named space.Key = refl
-is_named space.Reply = refl
-is_named (space.Descriptor r) = refl
 is_named (space.Cell (Hidden k)) = refl
-is_named (space.Cell (Num n)) = refl
-is_named (space.Cell (Var i)) = refl
-is_named (space.Cell (Argument i)) = refl
-is_named (space.Table t) = refl
+is_named (space.Cell _) = refl
+is_named _ = refl
 
 pub zone_small : (p : Space) → zone p < 10
 zone_small (space.Slot q) = omega arith
-zone_small (space.Scratch i) = omega arith
-zone_small space.Key = omega arith
-zone_small space.Reply = omega arith
-zone_small (space.Descriptor r) = omega arith
 zone_small (space.Cell (Hidden k)) = omega arith
-zone_small (space.Cell (Num n)) = omega arith
-zone_small (space.Cell (Var i)) = omega arith
-zone_small (space.Cell (Argument i)) = omega arith
-zone_small (space.Table t) = omega arith
+zone_small (space.Cell _) = omega arith
+zone_small _ = omega arith
 
 two_places : (a b base unit len : ℕ) → a ≢ b → len ≤ unit → (base + unit * a + len ≤ base + unit * b) ⊎ (base + unit * b + len ≤ base + unit * a)
 two_places a b base unit len ne l =
@@ -164,8 +151,6 @@ module _ (c : ChainPlan) (tables_at size : ℕ) (ts : List TableInit) (stands : 
       let code = stands.code_end in
       record { above = omega arith; below = omega (arith, fits, slot, code) }
   lies (space.Scratch i) h = let few = ltb-true i 4 h in record { above = omega arith; below = omega (arith, few) }
-  lies space.Key h = record { above = omega arith; below = omega arith }
-  lies space.Reply h = record { above = omega arith; below = omega arith }
   lies (space.Descriptor r) h = let inside = ring_within r h in record { above = omega arith; below = omega (arith, inside) }
   lies (space.Cell (Hidden k)) h = let few = ltb-true k c.hidden h in record { above = omega arith; below = omega (arith, few) }
   lies (space.Cell (Num n)) h = let few = place_below n c.constants h in record { above = omega arith; below = omega (arith, few) }
@@ -180,6 +165,7 @@ module _ (c : ChainPlan) (tables_at size : ℕ) (ts : List TableInit) (stands : 
       let words = stands.words_end in
       let all = stands.size_is in
       record { above = omega (arith, here, up, words); below = omega (arith, here, long, down, all) }
+  lies _ h = record { above = omega arith; below = omega arith }
 
   abbrev Apart : Space → Space → Type 0
   Apart p q =
@@ -243,8 +229,6 @@ module _ (c : ChainPlan) (tables_at size : ℕ) (ts : List TableInit) (stands : 
   apart_like (space.Slot q) k h g ne = slots_apart q k h g ne
   apart_like (space.Scratch i) k h g ne =
       elim (two_places i k.slot c.control_base 8 8 (other_number i k.slot ne) (omega arith)) [ inl l ↦ inl (omega (arith, l)) | inr l ↦ inr (omega (arith, l)) ]
-  apart_like space.Key k h g ne = absurd (true≢false ne)
-  apart_like space.Reply k h g ne = absurd (true≢false ne)
   apart_like (space.Descriptor r) k h g ne =
       let far = other_number r k.slot ne in
       let a = ring_above r h in
@@ -258,6 +242,7 @@ module _ (c : ChainPlan) (tables_at size : ℕ) (ts : List TableInit) (stands : 
   apart_like (space.Cell (Argument i)) k h g ne =
       elim (two_places i k.slot (message_base c) 8 8 (other_number i k.slot ne) (omega arith)) [ inl l ↦ inl (omega (arith, l)) | inr l ↦ inr (omega (arith, l)) ]
   apart_like (space.Table t) k h g ne = tables_apart t k.slot h g ne
+  apart_like _ k h g ne = absurd (true≢false ne)
 
   apart_kind : (p q : Space) → zone p ≡ zone q → Apart p q
   apart_kind p q e = subst (Apart p) (sym (is_named q ∙ ap (λ (z : ℕ). named_by z (name_of q)) (sym e))) (apart_like p (name_of q))

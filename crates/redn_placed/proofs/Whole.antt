@@ -5,8 +5,8 @@ use Rattle.std.specs.List.{list_all, All, AllByRecursion}
 use Rattle.std.proofs.lemmas.Bool.{and_parts, and_from, lt-ltb, le-leb, leb-true}
 use Rattle.std.proofs.lemmas.List.Elements.{All-head, All-tail}
 use Rattle.redn_words.specs.declared.types.Region.{Region}
-use Rattle.redn_words.proofs.Slots.{IsNarrow}
-use Rattle.redn_kernel.specs.declared.types.Cell.TheVariants.{Var, Hidden, Argument, Num}
+use Rattle.redn_words.specs.Slots.{IsNarrow}
+use Rattle.redn_kernel.specs.declared.types.Cell.TheVariants.{Hidden}
 use Rattle.redn_kernel.specs.declared.types.Program.{Program}
 use Rattle.redn_graph.specs.declared.types.Block.{Block}
 use Rattle.redn_graph.specs.declared.types.Graph.{Graph}
@@ -48,16 +48,12 @@ use Rattle.redn_placed.proofs.Named.{HasThings, block_named}
 use Rattle.redn_placed.proofs.Narrow.{is_small, all_narrow}
 use Rattle.redn_placed.proofs.Small.{block_small}
 use Rattle.redn_placed.proofs.Lengths.{fits, its, can, total, size_is, size_few, ends, keys}
+use Rattle.redn_recycle.proofs.Starts.{start_behind}
 
 pub all_at : {X : Type 0} (P : X → Type 0) (xs : List X) → All P xs → (k : ℕ) (x : X) → slice_get xs k ≡ Some x → P x
 all_at P [] h k x e = absurd (cc)
 all_at P (y ∷ xs) h zero x e = let is : y ≡ x = cc in subst P is (All-head P y xs h)
 all_at P (y ∷ xs) h (suc k) x e = all_at P xs (All-tail P y xs h) k x e
-
--- a draft of a segment among all drafts
-start_behind : (s : List Draft) (rest : List (List Draft)) (j : ℕ) → start_of (s ∷ rest) (suc j) ≡ length s + start_of rest j
-start_behind s rest zero = omega arith
-start_behind s rest (suc j) = let h : start_of (s ∷ rest) (suc j) ≡ length s + start_of rest j = start_behind s rest j in omega (arith, h)
 
 get_front : (xs ys : List Draft) (k : ℕ) (d : Draft) → slice_get xs k ≡ Some d → slice_get (xs ++ ys) k ≡ Some d
 get_front [] ys k d e = absurd (cc)
@@ -83,16 +79,10 @@ table_key c (u ∷ us) size zero d few low h = let n = h.0.number in omega (arit
 table_key c (u ∷ us) size (suc t) d few low h = table_key c us size t d few low h.1
 
 home_key : (c : ChainPlan) (us : List TablePlan) (size : ℕ) → first_key c ≤ 2000 → AllByRecursion (TableFits size) us → (p : Space) → (home c us p).region.key < 2 ^ 32
-home_key c us size few h (space.Slot q) = omega (arith, few)
-home_key c us size few h (space.Scratch i) = omega (arith, few)
-home_key c us size few h space.Key = omega (arith, few)
-home_key c us size few h space.Reply = omega (arith, few)
-home_key c us size few h (space.Descriptor r) = omega (arith, few)
-home_key c us size few h (space.Cell (Hidden k)) = omega (arith, few)
-home_key c us size few h (space.Cell (Num n)) = omega (arith, few)
-home_key c us size few h (space.Cell (Var i)) = omega (arith, few)
-home_key c us size few h (space.Cell (Argument i)) = omega (arith, few)
 home_key c us size few h (space.Table t) = table_key c us size t _ few (omega arith) h
+home_key c us size few h (space.Cell (Hidden k)) = omega (arith, few)
+home_key c us size few h (space.Cell _) = omega (arith, few)
+home_key c us size few h _ = omega (arith, few)
 
 keys_few : (c : ChainPlan) → c.number < 16 → c.tables ≤ 64 → first_key c ≤ 2000
 keys_few c a b =

@@ -32,11 +32,17 @@ module _ (p : Program) (graphs : List Graph) (c : ChainPlan) where
 
   -- each slot is its request, gates and descriptors are those before lap 0, words are as the program says, and the rest is zero
   pub record Begins : Type 0 where
-    pub drafts : (r j k : ℕ) (d : Draft) → is_ring plan_for r ≡ true → j < (plan_for.ring r).segments → IsBody plan_for r j k d → at_first (slot_space r (body_slot plan_for r j k)) ≡ encoded (body_request plan_for r j k d)
-    pub waits : (r j : ℕ) → is_ring plan_for r ≡ true → j < (plan_for.ring r).segments → gates_of r (plan_for.ring r) j ≡ 2 → at_first (slot_space r (wait_of r (plan_for.ring r) j)) ≡ encoded (wait_request r (plan_for.ring r) (count_at r (plan_for.ring r) 0 0 j))
-    pub enables : (r j : ℕ) → is_ring plan_for r ≡ true → suc j < (plan_for.ring r).segments → at_first (slot_space r (enable_of r (plan_for.ring r) j)) ≡ encoded (enable_request r (plan_for.ring r) (limit_at r (plan_for.ring r) 0 0 j))
-    pub last : (r j : ℕ) → is_ring plan_for r ≡ true → suc j ≡ (plan_for.ring r).segments → gates_of r (plan_for.ring r) j ≡ 2 → at_first (slot_space r (enable_of r (plan_for.ring r) j)) ≡ encoded (last_enable r (plan_for.ring r))
-    pub descriptors : (r : ℕ) → is_ring plan_for r ≡ true → at_first (space.Descriptor r) ≡ descriptor_bytes r (plan_for.ring r) (opening_at r (plan_for.ring r) 0 0)
+    pub drafts : (r j k : ℕ) (d : Draft) → is_ring plan_for r ≡ true → j < (plan_for.ring r).segments → IsBody plan_for r j k d
+        → at_first (slot_space r (body_slot plan_for r j k)) ≡ encoded (body_request plan_for r j k d)
+    pub waits : (r j : ℕ) → is_ring plan_for r ≡ true → j < (plan_for.ring r).segments → gates_of r (plan_for.ring r) j ≡ 2
+        → at_first (slot_space r (wait_of r (plan_for.ring r) j)) ≡ encoded (wait_request r (plan_for.ring r) (count_at r (plan_for.ring r) 0 0 j))
+    pub enables : (r j : ℕ) → is_ring plan_for r ≡ true → suc j < (plan_for.ring r).segments
+        → at_first (slot_space r (enable_of r (plan_for.ring r) j))
+        ≡ encoded (enable_request r (plan_for.ring r) (limit_at r (plan_for.ring r) 0 0 j))
+    pub last : (r j : ℕ) → is_ring plan_for r ≡ true → suc j ≡ (plan_for.ring r).segments → gates_of r (plan_for.ring r) j ≡ 2
+        → at_first (slot_space r (enable_of r (plan_for.ring r) j)) ≡ encoded (last_enable r (plan_for.ring r))
+    pub descriptors : (r : ℕ) → is_ring plan_for r ≡ true
+        → at_first (space.Descriptor r) ≡ descriptor_bytes r (plan_for.ring r) (opening_at r (plan_for.ring r) 0 0)
     pub numbers : (n : ℕ) → has_space c (space.Cell (Num n)) ≡ true → at_first (space.Cell (Num n)) ≡ spelled 8 n
     pub variables : (i v : ℕ) → slice_get c.values i ≡ Some v → at_first (space.Cell (Var i)) ≡ spelled 8 v
     pub hidden : (k : ℕ) → has_space c (space.Cell (Hidden k)) ≡ true → at_first (space.Cell (Hidden k)) ≡ replicate 8 0
@@ -53,7 +59,8 @@ AllBegin =
 -- and so it is ready, before segment 0 of whichever ring and before lap 0 of each
 abbrev pub BeginsReady : (p : Program) (graphs : List Graph) (c : ChainPlan) → Meaning (plan_for p graphs c) → Type 0
 BeginsReady p graphs c G =
-    AreSound p graphs → (i : ℕ) → slice_get (plans p graphs) i ≡ Some c → (x : Turn (plan_for p graphs c) G) → ((r : ℕ) → x.laps r ≡ 0) → x.segment ≡ 0 → G.Fine x.ring x.segment x.ghost (at_first p graphs c) → Ready (plan_for p graphs c) G x (memory p graphs)
+    AreSound p graphs → (i : ℕ) → slice_get (plans p graphs) i ≡ Some c → (x : Turn (plan_for p graphs c) G) → ((r : ℕ) → x.laps r ≡ 0)
+    → x.segment ≡ 0 → G.Fine x.ring x.segment x.ghost (at_first p graphs c) → Ready (plan_for p graphs c) G x (memory p graphs)
 
 -- memory holds bytes, where the tables do
 abbrev pub AllBytes : Type 0

@@ -32,14 +32,18 @@ AllLaidOut =
 -- so its windows are those of laps
 abbrev pub AllLaid : Type 0
 AllLaid =
-    (p : Program) (graphs : List Graph) → AreSound p graphs → (i : ℕ) (c : ChainPlan) → slice_get (plans p graphs) i ≡ Some c → IsLaid (plan_of (layout_of p graphs c))
+    (p : Program) (graphs : List Graph) → AreSound p graphs → (i : ℕ) (c : ChainPlan) → slice_get (plans p graphs) i ≡ Some c
+    → IsLaid (plan_of (layout_of p graphs c))
 
 -- what a chain has for itself is no other's, and no table's
 pub record LieApart (p : Program) (graphs : List Graph) : Type 0 where
   pub numbered : (i : ℕ) (c : ChainPlan) → slice_get (plans p graphs) i ≡ Some c → c.number ≡ i
-  pub chains : (i j : ℕ) (c d : ChainPlan) → slice_get (plans p graphs) i ≡ Some c → slice_get (plans p graphs) j ≡ Some d → i ≢ j → (q : ℕ) → is_own (entries_base p graphs) c q ≡ true → is_own (entries_base p graphs) d q ≡ false
-  pub shared : (i k : ℕ) (c : ChainPlan) (t : TablePlan) → slice_get (plans p graphs) i ≡ Some c → slice_get (tables p graphs) k ≡ Some t → (q : ℕ) → holds (table_range t) q ≡ true → is_own (entries_base p graphs) c q ≡ false
-  pub private : (i j : ℕ) (c : ChainPlan) → slice_get (plans p graphs) i ≡ Some c → i ≢ j → (q : ℕ) → is_own (entries_base p graphs) c q ≡ true → domain_holds (regions p graphs) j q ≡ false
+  pub chains : (i j : ℕ) (c d : ChainPlan) → slice_get (plans p graphs) i ≡ Some c → slice_get (plans p graphs) j ≡ Some d → i ≢ j → (q : ℕ)
+      → is_own (entries_base p graphs) c q ≡ true → is_own (entries_base p graphs) d q ≡ false
+  pub shared : (i k : ℕ) (c : ChainPlan) (t : TablePlan) → slice_get (plans p graphs) i ≡ Some c → slice_get (tables p graphs) k ≡ Some t → (q : ℕ)
+      → holds (table_range t) q ≡ true → is_own (entries_base p graphs) c q ≡ false
+  pub private : (i j : ℕ) (c : ChainPlan) → slice_get (plans p graphs) i ≡ Some c → i ≢ j → (q : ℕ) → is_own (entries_base p graphs) c q ≡ true
+      → domain_holds (regions p graphs) j q ≡ false
   pub ends : EndsBy (length (memory p graphs)) (regions p graphs)
 
 abbrev pub ChainsLieApart : Type 0
@@ -61,4 +65,6 @@ WrittenAreAll = (ts : List TableInit) (t : ℕ) → list_any (λ (u : ℕ). u ==
 -- the region of each space grants what its kind allows
 abbrev pub AllGranted : Type 0
 AllGranted =
-    (p : Program) (graphs : List Graph) → AreSound p graphs → (i : ℕ) (c : ChainPlan) → slice_get (plans p graphs) i ≡ Some c → (written : List ℕ) → AreWritable p written → (x : Space) (need : Need) → has_space c x ≡ true → allows written (kind_of x) need ≡ true → grants (home c (tables p graphs) x).region.rights need ≡ true
+    (p : Program) (graphs : List Graph) → AreSound p graphs → (i : ℕ) (c : ChainPlan) → slice_get (plans p graphs) i ≡ Some c → (written : List ℕ)
+    → AreWritable p written → (x : Space) (need : Need) → has_space c x ≡ true → allows written (kind_of x) need ≡ true
+    → grants (home c (tables p graphs) x).region.rights need ≡ true

@@ -1,4 +1,6 @@
-//! What an image of graphs places is laid out as rings with laps ask.
+//! Where an image of graphs places its chains: their homes, rights, queues and first bytes.
+//! The law: each placed chain is laid out as rings with laps ask, apart from all others, with the
+//! rights that its drafts need. Memory begins as its rings ask before lap 0.
 #![tactic(auto)]
 
 mod laws;

@@ -11,7 +11,7 @@ use Rattle.redn_segment.specs.declared.types.Draft.{Draft}
 use Rattle.redn_segment.specs.Building.{drafts_of}
 use Rattle.redn_recycle.specs.Lapped.{segment_at, start_of, first_of, slots_added, sends_last, slots_in_laps, segment_of_slot, slot_in_laps}
 
-start_behind : (s : List Draft) (rest : List (List Draft)) (j : ℕ) → start_of (s ∷ rest) (suc j) ≡ length s + start_of rest j
+pub start_behind : (s : List Draft) (rest : List (List Draft)) (j : ℕ) → start_of (s ∷ rest) (suc j) ≡ length s + start_of rest j
 start_behind s rest zero = omega arith
 start_behind s rest (suc j) = let h : start_of (s ∷ rest) (suc j) ≡ length s + start_of rest j = start_behind s rest j in omega (arith, h)
 

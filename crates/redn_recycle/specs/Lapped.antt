@@ -24,7 +24,8 @@ module _ (number : ℕ) (r : Ring) where
   abbrev pub gate_drafts : ℕ → List Draft
   gate_drafts j =
       if is_send_last number r j then [] else (
-      if is_last number r j then gate_draft Wait number 0 ∷ gate_draft Enable 0 0 ∷ [] else gate_draft Wait number (suc j) ∷ gate_draft Enable number (r.first (suc (suc j))) ∷ [])
+      if is_last number r j then gate_draft Wait number 0 ∷ gate_draft Enable 0 0 ∷ [] else gate_draft Wait number (suc j)
+      ∷ gate_draft Enable number (r.first (suc (suc j))) ∷ [])
 
   abbrev pub lapped_segment : ℕ → List Draft
   lapped_segment j = bodies_of number r j ++ gate_drafts j

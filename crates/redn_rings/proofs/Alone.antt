@@ -16,7 +16,7 @@ use Rattle.redn_segment.specs.Footprints.{both_sides, drafts_free, all_free, amo
 use Rattle.redn_segment.specs.Orders.{Follows}
 use Rattle.redn_segment.specs.Plain.{Bytes, View, seeing, Put, placed, Outcome, Went, Faults, Bad, after, follow, step, runs, opcode_in}
 use Rattle.redn_segment.specs.Sites.{space_of, is_table, next_slot}
-use Rattle.redn_words.proofs.Bytes.{covers}
+use Rattle.redn_words.specs.Bytes.{covers}
 use Rattle.redn_words.specs.Landings.{change}
 use Rattle.redn_segment.specs.declared.types.SlotRef.{SlotRef}
 use Rattle.redn_segment.specs.declared.types.Space.{Space}
@@ -51,14 +51,12 @@ puts_front each zero = sym (append-nil (each 0))
 puts_front each (suc n) = ap (λ (l : List Put). l ++ each (suc n)) (puts_front each n) ∙ append_assoc (each 0) (puts_of_first (λ k. each (suc k)) n) (each (suc n))
 
 good_first : (o : Outcome) (go : List Put → Outcome) → IsGood (follow o go) → IsGood o
-good_first (Went us shown) go h = tt
-good_first (Faults us shown) go h = tt
 good_first Bad go h = h
+good_first _ go h = tt
 
 good_after : (us : List Put) (shown : List Obs) (o : Outcome) → IsGood (after us shown o) → IsGood o
-good_after us shown (Went vs more) h = tt
-good_after us shown (Faults vs more) h = tt
 good_after us shown Bad h = h
+good_after us shown _ h = tt
 
 module _ (chain : View) (first : SlotRef) (n : ℕ) where
   -- a slot of the segment stays

@@ -5,9 +5,9 @@ use Rattle.std.proofs.lemmas.Bool.{le-leb}
 use Rattle.redn_words.specs.declared.types.Obs.{Obs}
 use Rattle.redn_words.specs.declared.types.Obs.TheVariants as shows
 use Rattle.redn_words.specs.declared.types.Kind.{Kind}
-use Rattle.redn_words.specs.declared.types.Kind.TheVariants.{Vars, Table, Code, Control, Message}
+use Rattle.redn_words.specs.declared.types.Kind.TheVariants.{Vars, Table}
 use Rattle.redn_words.specs.declared.types.Opcode.{Opcode}
-use Rattle.redn_words.specs.declared.types.Opcode.TheVariants.{Noop, Write, Read, Cas, Add, Send, Wait, Enable, Undefined}
+use Rattle.redn_words.specs.declared.types.Opcode.TheVariants.{Write, Read, Cas, Add, Send}
 use Rattle.redn_homes.proofs.Telling.{Tells, same_offset, write_tells, read_tells, cas_tells, add_tells, send_tells}
 use Rattle.redn_rings.proofs.Alone.{NoFault}
 use Rattle.redn_segment.specs.Plain.{Bytes, Put, Outcome, Bad, acts, with_event, local_space, remote_space, remote_in, local_bytes, remote_bytes, request_of, origin, fits, reaches}
@@ -16,24 +16,13 @@ use Rattle.redn_words.specs.Words.{word}
 use Rattle.redn_segment.specs.declared.types.Draft.{Draft}
 
 event_no_fault : (us : List Put) (o : Obs) → Tells o o → NoFault (with_event us o)
-event_no_fault us shows.Nothing h = tt
-event_no_fault us (shows.Set c v w) h = tt
-event_no_fault us (shows.Load c v t o w) h = tt
-event_no_fault us (shows.Look c t o w) h = tt
-event_no_fault us (shows.Store c t o w) h = tt
-event_no_fault us (shows.Reply c n ws) h = tt
 event_no_fault us (shows.Fault c t o) h = absurd h
-event_no_fault us (shows.Stale q i) h = tt
-event_no_fault us (shows.Undefined q i) h = tt
-event_no_fault us (shows.Refused q i) h = tt
-event_no_fault us (shows.Odd q i) h = tt
+event_no_fault us _ h = tt
 
 offset_itself : (k : Kind) (a : ℕ) → same_offset k a a
 offset_itself Vars a = refl
 offset_itself (Table t) a = refl
-offset_itself Code a = tt
-offset_itself Control a = tt
-offset_itself Message a = tt
+offset_itself _ a = tt
 
 gated : (b : Bool) (o : Outcome) → NoFault o → NoFault (cond (not b) Bad o)
 gated true o h = h
@@ -46,7 +35,6 @@ reached false p o e h = absurd (cc)
 module _ (chain : ℕ) (s : Bytes) (slot : List ℕ) (d : Draft) where
   pub no_fault : (op : Opcode) → reaches s slot d d.length ≡ true → NoFault (acts chain s slot d op)
   unfolding acts
-  no_fault Noop h = tt
   no_fault Write h =
       gated (fits d d.length) _ (reached (reaches s slot d d.length) _ _ h (event_no_fault _ _ (write_tells (origin chain) (origin chain) refl (request_of slot d) (request_of slot d) refl (word (local_bytes s d d.length) 0) (kind_of (local_space d)) (kind_of (remote_space d)) (offset_itself (kind_of (remote_space d)) _))))
   no_fault Read h =
@@ -56,9 +44,7 @@ module _ (chain : ℕ) (s : Bytes) (slot : List ℕ) (d : Draft) where
       gated _ _ (event_no_fault _ _ (add_tells (origin chain) (origin chain) refl (request_of slot d) (request_of slot d) refl _ (kind_of (local_space d)) (kind_of (remote_space d)) (offset_itself (kind_of (remote_space d)) _)))
   no_fault Send h =
       gated _ _ (event_no_fault _ _ (send_tells (origin chain) (origin chain) refl (request_of slot d) (request_of slot d) refl (local_bytes s d d.length) (kind_of (local_space d))))
-  no_fault Wait h = tt
-  no_fault Enable h = tt
-  no_fault (Undefined n) h = tt
+  no_fault _ h = tt
 
   -- as does one that has no table
   pub reaches_plain : is_table d.remote ≡ false → reaches s slot d d.length ≡ true

@@ -81,12 +81,7 @@ fits_of home mine t (u ∷ us) h i =
 -- a chain that sees the tables of a state
 seen_at : (s u : Bytes) (p : Space) → seeing (λ t. u (space.Table t)) (tabled s u) p ≡ tabled s u p
 seen_at s u (space.Table t) = refl
-seen_at s u (space.Cell c) = refl
-seen_at s u space.Reply = refl
-seen_at s u space.Key = refl
-seen_at s u (space.Scratch i) = refl
-seen_at s u (space.Descriptor i) = refl
-seen_at s u (space.Slot q) = refl
+seen_at s u _ = refl
 
 pub seen_own : (s u : Bytes) → seeing (λ t. u (space.Table t)) (tabled s u) ≡ tabled s u
 seen_own s u = λ i p. seen_at s u p i

@@ -11,8 +11,6 @@ use Rattle.redn_words.specs.declared.types.Opcode.{Opcode}
 use Rattle.redn_words.specs.declared.types.Opcode.TheVariants.{Noop, Add, Send}
 use Rattle.redn_homes.proofs.Abreast.{Fit}
 use Rattle.redn_homes.proofs.Reading.{acts_same, puts_inside}
-use Rattle.redn_homes.proofs.Segments.{all_at}
-use Rattle.redn_homes.proofs.Showing.{same_placed}
 use Rattle.redn_homes.specs.Homes.{puts_of_first}
 use Rattle.redn_homes.specs.Segments.{is_table_space, IsGood, slot_space}
 use Rattle.redn_laps.proofs.LapSteps.{LapOf, Raises_wait, Raises_enable, Raises_descriptor, lap_of, slice_get_append}
@@ -39,8 +37,10 @@ use Rattle.redn_segment.specs.declared.types.Site.TheVariants as site
 use Rattle.redn_segment.specs.declared.types.Space.{Space}
 use Rattle.redn_segment.specs.declared.types.Space.TheVariants as space
 use Rattle.redn_segment.specs.declared.types.Draft.{Draft}
+use Rattle.redn_segment.proofs.AnyOrder.{all_at}
+use Rattle.redn_segment.proofs.Puts.{same_placed}
 
-front : {X : Type 0} (a b : List X) (k : ℕ) (x : X) → slice_get a k ≡ Some x → slice_get (a ++ b) k ≡ Some x
+pub front : {X : Type 0} (a b : List X) (k : ℕ) (x : X) → slice_get a k ≡ Some x → slice_get (a ++ b) k ≡ Some x
 front [] b k x e = absurd (cc)
 front (y ∷ a) b zero x e = e
 front (y ∷ a) b (suc k) x e = front a b k x e
@@ -85,9 +85,8 @@ module _ (c : Plan) (Takes : ℕ → ℕ → ℕ → Opcode → Type 0) (Y : Typ
   bodies r j = bodies_of r (c.ring r) j
 
   comes_good : (Next : List Obs → Bytes → Type 0) (End : List Obs → Type 0) (s : Bytes) (o : Outcome) → Comes Next End s o → IsGood o
-  comes_good Next End s (Went us events) h = tt
-  comes_good Next End s (Faults us events) h = tt
   comes_good Next End s Bad h = h
+  comes_good Next End s _ h = tt
 
   -- rooms where tables are as long as they are
   abbrev long_home : Bytes → Space → Home
@@ -104,12 +103,7 @@ module _ (c : Plan) (Takes : ℕ → ℕ → ℕ → Opcode → Type 0) (Y : Typ
 
   table_room : (t u : Bytes) (x : Site) → is_table x ≡ true → ((i : ℕ) → length (u (space.Table i)) ≡ length (t (space.Table i))) → length (seeing (λ i. u (space.Table i)) t (space_of x)) ≡ room_of (long_home t) (space_of x)
   table_room t u (site.Table i o) e h = h i
-  table_room t u (site.Cell x) e h = absurd (false≢true e)
-  table_room t u (site.ReplyWord x) e h = absurd (false≢true e)
-  table_room t u site.Key e h = absurd (false≢true e)
-  table_room t u (site.Scratch x) e h = absurd (false≢true e)
-  table_room t u (site.Descriptor x) e h = absurd (false≢true e)
-  table_room t u (site.Field x) e h = absurd (false≢true e)
+  table_room t u _ e h = absurd (false≢true e)
 
   module _ (laid : IsLaid c) (right : Allows c Takes Y Tells Fails Entry) where
     module _ (r j : ℕ) (its : is_ring c r ≡ true) (here : j < (c.ring r).segments) where

@@ -1,6 +1,6 @@
 -- A draft that may show no event by its opcode shows none, unless it is bad.
-use Rattle.std.proofs.Common.{◌≡◌, ℕ, Bool, true, false, not, cond, ◌&&◌, ◌||◌, List, [], refl, sym}
-use Rattle.std.proofs.lemmas.Bool.{false≢true}
+use Rattle.std.proofs.Common.{◌≡◌, ℕ, Bool, true, false, not, cond, ◌&&◌, List, [], refl, sym}
+use Rattle.std.proofs.lemmas.Bool.{false≢true, or_parts as neither}
 use Rattle.redn_words.specs.declared.types.Obs.{Obs}
 use Rattle.redn_words.specs.declared.types.Obs.TheVariants as shows
 use Rattle.redn_words.specs.declared.types.Kind.{Kind}
@@ -8,7 +8,7 @@ use Rattle.redn_words.specs.declared.types.Kind.TheVariants.{Vars, Table, Code, 
 use Rattle.redn_words.specs.declared.types.Request.{Request}
 use Rattle.redn_words.specs.declared.types.Origin.{Origin}
 use Rattle.redn_words.specs.declared.types.Opcode.{Opcode}
-use Rattle.redn_words.specs.declared.types.Opcode.TheVariants.{Noop, Write, Read, Cas, Add, Send, Wait, Enable, Undefined}
+use Rattle.redn_words.specs.declared.types.Opcode.TheVariants.{Noop, Write, Read, Cas, Add, Send}
 use Rattle.redn_homes.specs.Segments.{IsGood}
 use Rattle.redn_rings.proofs.NoFaults.{reaches_plain}
 use Rattle.redn_segment.specs.Plain.{Bytes, Put, Outcome, Went, Bad, acts, with_event, local_space, remote_space, local_bytes, remote_bytes, request_of, origin, fits, reaches, is_atomic}
@@ -16,7 +16,7 @@ use Rattle.redn_segment.specs.Sites.{kind_of, space_of, is_table}
 use Rattle.redn_segment.specs.Templates.{is_variable, is_shown, may_show_by}
 use Rattle.redn_words.specs.Landings.{write_shows, read_shows, add_shows, is_hidden, when}
 use Rattle.redn_words.specs.Words.{word}
-use Rattle.redn_kernel.specs.declared.types.Cell.TheVariants.{Var, Hidden, Argument, Num}
+use Rattle.redn_kernel.specs.declared.types.Cell.TheVariants.{Var}
 use Rattle.redn_segment.specs.declared.types.Site.{Site}
 use Rattle.redn_segment.specs.declared.types.Site.TheVariants as site
 use Rattle.redn_segment.specs.declared.types.Draft.{Draft}
@@ -32,15 +32,7 @@ Silent o = (us : List Put) × (o ≡ Went us [])
 event_silent : (us : List Put) (o : Obs) → IsUnseen o → IsGood (with_event us o) → Silent (with_event us o)
 event_silent us shows.Nothing h g = (us, refl)
 event_silent us (shows.Odd q i) h g = absurd g
-event_silent us (shows.Set c v w) h g = absurd h
-event_silent us (shows.Load c v t o w) h g = absurd h
-event_silent us (shows.Look c t o w) h g = absurd h
-event_silent us (shows.Store c t o w) h g = absurd h
-event_silent us (shows.Reply c n ws) h g = absurd h
-event_silent us (shows.Fault c t o) h g = absurd h
-event_silent us (shows.Stale q i) h g = absurd h
-event_silent us (shows.Undefined q i) h g = absurd h
-event_silent us (shows.Refused q i) h g = absurd h
+event_silent us _ h g = absurd h
 
 abbrev no_events : Kind → Bool
 no_events Vars = false
@@ -53,40 +45,16 @@ no_vars _ = true
 
 site_no_events : (x : Site) → is_shown x ≡ false → no_events (kind_of (space_of x)) ≡ true
 site_no_events (site.Cell (Var i)) h = absurd (false≢true (sym h))
-site_no_events (site.Cell (Hidden i)) h = refl
-site_no_events (site.Cell (Argument i)) h = refl
-site_no_events (site.Cell (Num n)) h = refl
-site_no_events (site.ReplyWord i) h = refl
-site_no_events site.Key h = refl
-site_no_events (site.Scratch i) h = refl
-site_no_events (site.Descriptor i) h = refl
-site_no_events (site.Field f) h = refl
 site_no_events (site.Table t o) h = absurd (false≢true (sym h))
+site_no_events _ h = refl
 
 site_no_vars : (x : Site) → is_variable x ≡ false → no_vars (kind_of (space_of x)) ≡ true
 site_no_vars (site.Cell (Var i)) h = absurd (false≢true (sym h))
-site_no_vars (site.Cell (Hidden i)) h = refl
-site_no_vars (site.Cell (Argument i)) h = refl
-site_no_vars (site.Cell (Num n)) h = refl
-site_no_vars (site.ReplyWord i) h = refl
-site_no_vars site.Key h = refl
-site_no_vars (site.Scratch i) h = refl
-site_no_vars (site.Descriptor i) h = refl
-site_no_vars (site.Field f) h = refl
-site_no_vars (site.Table t o) h = refl
+site_no_vars _ h = refl
 
 shown_flat : (x : Site) → is_shown x ≡ false → is_table x ≡ false
 shown_flat (site.Table t o) h = h
-shown_flat (site.Cell x) h = refl
-shown_flat (site.ReplyWord i) h = refl
-shown_flat site.Key h = refl
-shown_flat (site.Scratch i) h = refl
-shown_flat (site.Descriptor i) h = refl
-shown_flat (site.Field f) h = refl
-
-neither : (a b : Bool) → a || b ≡ false → (a ≡ false) × (b ≡ false)
-neither false b h = (refl, h)
-neither true b h = absurd (cc)
+shown_flat _ h = refl
 
 module _ (o : Origin) (r : Request) (w : ℕ) where
   write_unseen : (j k : Kind) → no_events k ≡ true → IsUnseen (write_shows o r w j k)
@@ -153,6 +121,4 @@ module _ (chain : ℕ) (s : Bytes) (slot : List ℕ) (d : Draft) where
   unseen Add h g =
       pass (fits d 8 && is_atomic d) _ g (event_silent _ _ (add_unseen_by (origin chain) (request_of slot d) _ (is_hidden (kind_of (local_space d))) (kind_of (remote_space d)) (site_no_events d.remote h)))
   unseen Send h g = absurd (false≢true (sym h))
-  unseen Wait h g = absurd g
-  unseen Enable h g = absurd g
-  unseen (Undefined n) h g = absurd g
+  unseen _ h g = absurd g

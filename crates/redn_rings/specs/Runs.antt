@@ -35,19 +35,24 @@ abbrev pub shown_from : (ℕ → List Obs) → ℕ → List Obs
 shown_from shown zero = []
 shown_from shown (suc n) = shown 0 ++ shown_from (λ k. shown (suc k)) n
 
--- by which opcodes a slot can have; what the run of a segment tells of a ghost, over the tables that it sees: that it shows these events and leads to another ghost, or that it ends by a fault and shows these; and what holds where a ring is entered
-module _ (c : Plan) (Takes : ℕ → ℕ → ℕ → Opcode → Type 0) (Y : Type 0) (Tells : (r j : ℕ) → (u : Bytes) → Y → List Obs → Y → Type 0) (Fails : (r j : ℕ) → (u : Bytes) → Y → List Obs → Type 0) (Entry : ℕ → Y → Bytes → Type 0) where
+-- by which opcodes a slot can have; what the run of a segment tells of a ghost, over the tables that it sees: that it shows these events and leads to
+-- another ghost, or that it ends by a fault and shows these; and what holds where a ring is entered
+module _ (c : Plan) (Takes : ℕ → ℕ → ℕ → Opcode → Type 0) (Y : Type 0) (Tells : (r j : ℕ) → (u : Bytes) → Y → List Obs → Y
+    → Type 0) (Fails : (r j : ℕ) → (u : Bytes) → Y → List Obs → Type 0) (Entry : ℕ → Y → Bytes → Type 0) where
   -- a state at the opening of a segment
   pub record Opened (r j : ℕ) (y : Y) (s : Bytes) : Type 0 where
     pub takes : (k : ℕ) (d : Draft) → IsBody c r j k d → Takes r j k (opcode_in (slot_in c s r j k))
     pub sized : (p : Space) → IsPrivate c p → length (s p) ≡ room_of c.home p
-    pub closes : suc j ≡ (c.ring r).segments → gates_of r (c.ring r) j ≡ 2 → (v : ℕ) × (is_ring c v ≡ true) × (bytes_at (s (slot_space r (enable_of r (c.ring r) j))) 40 16 ≡ s (space.Descriptor v)) × ((u : Bytes) → HasBytes u → Comes (λ events t. (z : Y) × Tells r j u y events z × Entry v z t) (Fails r j u y) (tabled s u) (run_of c r j s u))
+    pub closes : suc j ≡ (c.ring r).segments → gates_of r (c.ring r) j ≡ 2
+        → (v : ℕ) × (is_ring c v ≡ true) × (bytes_at (s (slot_space r (enable_of r (c.ring r) j))) 40 16 ≡ s (space.Descriptor v)) × ((u : Bytes)
+        → HasBytes u → Comes (λ events t. (z : Y) × Tells r j u y events z × Entry v z t) (Fails r j u y) (tabled s u) (run_of c r j s u))
 
   -- so many segments are left, and whatever the tables are at each, none goes badly
   abbrev pub Sound : ℕ → ℕ → ℕ → Y → Bytes → Type 0
   Sound r zero j y s = Unit {0}
   Sound r (suc n) j y s =
-      Opened r j y s × ((u : Bytes) → HasBytes u → Comes (λ events t. (z : Y) × Tells r j u y events z × Sound r n (suc j) z t) (Fails r j u y) (tabled s u) (run_of c r j s u))
+      Opened r j y s × ((u : Bytes) → HasBytes u
+      → Comes (λ events t. (z : Y) × Tells r j u y events z × Sound r n (suc j) z t) (Fails r j u y) (tabled s u) (run_of c r j s u))
 
   -- memory agrees with such a state where the chain is alone
   pub record Fine (r j : ℕ) (y : Y) (s : Bytes) : Type 0 where
@@ -72,6 +77,8 @@ module _ (c : Plan) (Takes : ℕ → ℕ → ℕ → Opcode → Type 0) (Y : Typ
   pub record Allows : Type 0 where
     pub follows : (r j k : ℕ) (d : Draft) (op : Opcode) → is_ring c r ≡ true → j < (c.ring r).segments → IsBody c r j k d → Takes r j k op → Follows d op
     pub granted : (r j k : ℕ) (d : Draft) (op : Opcode) → is_ring c r ≡ true → j < (c.ring r).segments → IsOwn c r j k d → Takes r j k op → Granted c.home op d
-    pub keeps : (r j k : ℕ) (d : Draft) (op : Opcode) (v : ℕ) → is_ring c r ≡ true → j < (c.ring r).segments → IsOwn c r j k d → Takes r j k op → local_space d ≡ space.Descriptor v → acts_locally op ≡ false
-    pub unseen : (r j k : ℕ) (d : Draft) (op : Opcode) → is_ring c r ≡ true → j < (c.ring r).segments → IsOwn c r j k d → Takes r j k op → k ≢ (c.ring r).event j → may_show_by d op ≡ false
+    pub keeps : (r j k : ℕ) (d : Draft) (op : Opcode) (v : ℕ) → is_ring c r ≡ true → j < (c.ring r).segments → IsOwn c r j k d → Takes r j k op
+        → local_space d ≡ space.Descriptor v → acts_locally op ≡ false
+    pub unseen : (r j k : ℕ) (d : Draft) (op : Opcode) → is_ring c r ≡ true → j < (c.ring r).segments → IsOwn c r j k d → Takes r j k op
+        → k ≢ (c.ring r).event j → may_show_by d op ≡ false
     pub enters : (v : ℕ) (y : Y) (s : Bytes) → is_ring c v ≡ true → Entry v y s → Sound v (c.ring v).segments 0 y s

@@ -5,7 +5,7 @@ use Rattle.std.specs.List.{All}
 use Rattle.std.proofs.lemmas.List.{append-nil}
 use Rattle.std.proofs.lemmas.List.Elements.{All-head, All-tail}
 use Rattle.std.proofs.lemmas.Option.{slice_get_past}
-use Rattle.std.proofs.lemmas.Bool.{true≢false}
+use Rattle.std.proofs.lemmas.Bool.{true≢false, or_parts as neither}
 use Rattle.redn_words.specs.declared.types.Obs.{Obs}
 use Rattle.redn_words.specs.Words.{bytes_at}
 use Rattle.redn_graph.specs.declared.types.Instr.{Instr}
@@ -22,7 +22,7 @@ use Rattle.redn_segment.specs.Plain.{Bytes, Put, placed, Outcome, Went, Faults, 
 use Rattle.redn_segment.specs.Primed.{Primed, IsWhole, writes_slot}
 use Rattle.redn_segment.specs.Effects.{Effect, Leaves, Stops, Meets, IsLeft, is_own, slot_behind}
 use Rattle.redn_segment.specs.Parts.{IsPart, LeavesWhole}
-use Rattle.redn_segment.proofs.Composing.{not_owns, behind_next, behind_none}
+use Rattle.redn_segment.proofs.Composing.{not_owns, behind_next, behind_none, ends_long, writes_both}
 use Rattle.redn_segment.proofs.Growing.{drafts_append}
 use Rattle.redn_block.specs.Blocks.{ring_of, instr_part, end_part, part_segments, part_effect, part_size, HasTarget, InstrWords}
 use Rattle.redn_block.specs.Matches.{IsAt, IsOver, Onward, Ended}
@@ -34,11 +34,7 @@ use Rattle.redn_block.proofs.Whole.{last_of, last_is}
 use Rattle.redn_rounds.specs.Left.{Rest, LeftBy, IsLeftOf}
 use Rattle.redn_rounds.specs.Parts.{Round, IsRound, drafts, begins, last, Stands, AtPart, GoesOn, EndsAs, AtEnd}
 use Rattle.redn_rounds.proofs.Onward.{Keeps, instr_keeps, end_keeps, LeadsTo, end_leads}
-use Rattle.redn_rounds.proofs.Standing.{writes_both, neither, primed_second, primed_both, primed_kept, whole_left}
-
-ends_long : (all es : List Draft) (at : SlotRef) (s : Bytes) → Primed all at es s → length (s (space.Slot (slot_behind at (length es)))) ≡ 64
-ends_long all [] at s p = subst (λ (q : SlotRef). length (s (space.Slot q)) ≡ 64) (sym (behind_none at)) p
-ends_long all (d ∷ es) at s p = subst (λ (q : SlotRef). length (s (space.Slot q)) ≡ 64) (behind_next at (length es)) (ends_long all es (next_slot at) s p.1)
+use Rattle.redn_rounds.proofs.Standing.{primed_second, primed_both, primed_kept, whole_left}
 
 module _ (most : ℕ) (r : Round) (is_round : IsRound most r) where
   abbrev end : End
@@ -183,11 +179,8 @@ module _ (most : ℕ) (r : Round) (is_round : IsRound most r) where
     goes_there b s t u z e kept runs inside (Ended ended) = absurd (true≢false (sym ended ∙ runs))
 
     over_there : (e : End) (b s t u : Bytes) (z : GraphState) → u (space.Slot (last r)) ≡ t (space.Slot (last r)) → ((ring : ℕ) → s (space.Descriptor ring) ≡ b (space.Descriptor ring)) → LeadsTo r.things e z → IsOver r.first (last r) s z t → EndsAs r e b z u
-    over_there (Jump to) b s t u z e kept leads over = goes_there b s t u z e kept leads.0 leads.1 over
-    over_there (Test48 left right met unmet) b s t u z e kept leads over = goes_there b s t u z e kept leads.0 leads.1 over
-    over_there (Test64 left right met unmet) b s t u z e kept leads over = goes_there b s t u z e kept leads.0 leads.1 over
-    over_there (Probe to k offset key hit miss) b s t u z e kept leads over = goes_there b s t u z e kept leads.0 leads.1 over
     over_there (Reply words) b s t u z e kept leads over = leads
+    over_there _ b s t u z e kept leads over = goes_there b s t u z e kept leads.0 leads.1 over
 
     -- and so does the end
     pub end_left : (b : Bytes) (x : GraphState) (t : Bytes) → AtPart r b place x t → IsLeftOf r.course (AtEnd r b) false x at es t

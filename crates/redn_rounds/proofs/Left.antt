@@ -7,12 +7,12 @@ use Rattle.redn_segment.specs.declared.types.Draft.{Draft}
 use Rattle.redn_segment.specs.Plain.{Bytes, View, Put, placed, Outcome, Went, Faults, Bad, after, follow, runs}
 use Rattle.redn_segment.specs.Primed.{SeesBytes}
 use Rattle.redn_segment.specs.Effects.{slot_behind}
-use Rattle.redn_segment.proofs.Composing.{runs_append, placed_append}
+use Rattle.redn_segment.proofs.Composing.{runs_append, placed_append, apart as behind_other}
 use Rattle.redn_rings.specs.Runs.{own_view}
 use Rattle.redn_laps.specs.Turns.{HasBytes}
 use Rattle.redn_block.specs.Plays.{IsTrueOf, EventSteps}
 use Rattle.redn_rounds.specs.Left.{Course, Tells, Rest, Falls, LeftBy, IsLeftOf}
-use Rattle.redn_rounds.proofs.Views.{runs_alike, split, split_here, split_there, split_bytes, behind_other, AllTrue, runs_true, tables_for, true_of}
+use Rattle.redn_rounds.proofs.Views.{runs_alike, split, split_here, split_there, split_bytes, AllTrue, runs_true, tables_for, true_of}
 
 module _ (c : Course) where
   -- an event leads to one state
@@ -39,8 +39,7 @@ module _ (c : Course) where
       -- nothing was shown
       silent_by : (us : List Put) (o : Outcome) → LeftBy c Then ahead x t (after us [] o) → LeftBy c Then ahead x (placed t us) o
       silent_by us (Went vs events) h = (h.0, h.1, subst (Then h.0) (placed_append us vs t) h.2)
-      silent_by us (Faults vs events) h = h
-      silent_by us Bad h = h
+      silent_by us _ h = h
 
       pub left_silent : (us : List Put) → runs first at ds t ≡ Went us [] → IsLeftOf c Then ahead x behind es (placed t us)
       left_silent us goes w number sees = silent_by us (runs w behind es (placed t us)) (with_view w number sees us [] goes)

@@ -37,19 +37,14 @@ keeps_by true s e f h k = h
 keeps_by false s e f h k = k
 
 pub instr_keeps : (i : Instr) (at : SlotRef) (view : View) (s : Bytes) → Keeps s (part_effect at (instr_part i) view s)
-instr_keeps (Set to v) at view s = λ ring. refl
-instr_keeps (Move to from) at view s = λ ring. refl
-instr_keeps (Add to by) at view s = λ ring. refl
 instr_keeps (Load to t offset) at view s = keeps_by (lies_in (view.tables (slots_from at 1) t) (word_of s offset)) s _ _ (λ ring. refl) tt
 instr_keeps (Store t offset from) at view s = keeps_by (lies_in (view.tables (slots_from at 1) t) (word_of s offset)) s _ _ (λ ring. refl) tt
+instr_keeps _ at view s = λ ring. refl
 
 pub end_keeps : (first : ℕ) (e : End) (at : SlotRef) (view : View) (s : Bytes) → Keeps s (part_effect at (end_part first e) view s)
-end_keeps first (Jump to) at view s = λ ring. refl
-end_keeps first (Test48 left right met unmet) at view s = λ ring. refl
-end_keeps first (Test64 left right met unmet) at view s = λ ring. refl
 end_keeps first (Probe to t offset key hit miss) at view s =
     keeps_by (lies_in (view.tables (slots_from at 6) t) (word_of s offset)) s _ _ (keeps_by (low_48 (word (bytes_at (view.tables (slots_from at 6) t) (word_of s offset) 8) 0) == low_48 (word_of s key)) s _ _ (keeps_by (lies_in (view.tables (slots_from at 13) t) ((word_of s offset + 8) % 2 ^ 64)) s _ _ (λ ring. refl) tt) (λ ring. refl)) tt
-end_keeps first (Reply words) at view s = λ ring. refl
+end_keeps first _ at view s = λ ring. refl
 
 -- a reply ends its chain, and every other end leads to a block
 abbrev pub LeadsTo : Things → End → GraphState → Type 0
@@ -61,10 +56,6 @@ module _ (c : ℕ) (words : List ℕ) (g : Graph) (n : Things) (first block : �
   unfolding graph_step
   step_end taking y in_block at_end runs is tables =
       ap (λ (e : Bool). cond e (stays tables y) (block_turn c words tables y (slice_get g.blocks y.block))) runs ∙ (ap (λ (k : ℕ). block_turn c words tables y (slice_get g.blocks k)) in_block ∙ ap (block_turn c words tables y) there ∙ ap (λ (k : ℕ). graph_turn y (instr_or_end c words tables y (slice_get b.instrs k) b.end)) at_end ∙ ap (λ o. graph_turn y (instr_or_end c words tables y o b.end)) behind ∙ ap (λ (t : Bool). graph_turn y (end_does c words tables y.cells t b.end)) is)
-
-  -- the state behind a step
-  state_is : (tables : List (List ℕ)) (u z : GraphState) (t : GraphTurn) (out : GraphTurn) → t ≡ out → t.state ≡ u → out.state ≡ z → u ≡ z
-  state_is tables u z t out e h k = sym h ∙ (ap (λ (w : GraphTurn). w.state) e ∙ k)
 
   first_step : (e : End) → b.end ≡ e → (tables : List (List ℕ)) → graph_step c words tables x g ≡ graph_turn x (end_does c words tables x.cells false e)
   first_step e is tables = step_end false x at_x.block_is at_x.place_is at_x.runs_on at_x.taking_not tables ∙ ap (λ (f : End). graph_turn x (end_does c words tables x.cells false f)) is

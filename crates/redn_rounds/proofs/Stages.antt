@@ -39,12 +39,7 @@ Beside = Alike is_table_space
 
 pub beside_tabled : (t u : Bytes) → Beside (tabled t u) t
 beside_tabled t u (space.Table k) e = absurd (cc)
-beside_tabled t u (space.Slot q) e = refl
-beside_tabled t u (space.Cell c) e = refl
-beside_tabled t u space.Reply e = refl
-beside_tabled t u space.Key e = refl
-beside_tabled t u (space.Scratch i) e = refl
-beside_tabled t u (space.Descriptor i) e = refl
+beside_tabled t u _ e = refl
 
 tabled_beside : (s t u : Bytes) → Beside s t → (p : Space) → tabled s u p ≡ tabled t u p
 tabled_beside s t u h (space.Table k) = refl
@@ -87,8 +82,7 @@ module _ (c : Course) where
     where
       by_run : (o : Outcome) → LeftBy c Then b x s o → LeftBy c Then b x t o
       by_run (Went us l) k = (k.0, k.1, f k.0 (placed s us) (placed t us) (alike_placed is_table_space us s t h) k.2)
-      by_run (Faults us l) k = k
-      by_run Bad k = k
+      by_run _ k = k
 
 abbrev no_tables : Bytes
 no_tables p = []
@@ -139,11 +133,8 @@ module _ (r : Round) (most : ℕ) (is_round : IsRound most r) (b : Bytes) where
   goes_tabled z t u h = record { inside = h.inside; is_at = h.is_at; chooses = h.chooses }
 
   over_tabled : (e : End) (z : GraphState) (t u : Bytes) → EndsAs r e b z t → EndsAs r e b z (tabled t u)
-  over_tabled (Jump to) z t u h = goes_tabled z t u h
-  over_tabled (Test48 left right met unmet) z t u h = goes_tabled z t u h
-  over_tabled (Test64 left right met unmet) z t u h = goes_tabled z t u h
-  over_tabled (Probe to k offset key hit miss) z t u h = goes_tabled z t u h
   over_tabled (Reply words) z t u h = h
+  over_tabled _ z t u h = goes_tabled z t u h
 
   to_later : (place : ℕ) (z : GraphState) (t : Bytes) → AtPart r b place z t → Later place z t
   to_later place z t h u bytes = record { is_at = h.is_at; same = same_tabled z t u h.same; stands = stands_tabled t u bytes h.stands }
@@ -168,20 +159,13 @@ module _ (r : Round) (most : ℕ) (is_round : IsRound most r) (b : Bytes) where
 
   instr_some : (i : Instr) (at : SlotRef) → IsSome (part_segments at (instr_part i))
   instr_some (Set to v) at = some_of _ _
-  instr_some (Move to from) at = some_of _ _
   instr_some (Add to (cell.Num n)) at = some_of _ _
-  instr_some (Add to (cell.Var i)) at = some_of _ _
-  instr_some (Add to (cell.Hidden i)) at = some_of _ _
-  instr_some (Add to (cell.Argument i)) at = some_of _ _
-  instr_some (Load to table offset) at = some_of _ _
-  instr_some (Store table offset from) at = some_of _ _
+  instr_some (Add to _) at = some_of _ _
+  instr_some _ at = some_of _ _
 
   end_some : (e : End) (at : SlotRef) → IsSome (part_segments at (end_part r.first e))
   end_some (Jump to) at = some_of _ _
-  end_some (Test48 left right met unmet) at = some_of _ _
-  end_some (Test64 left right met unmet) at = some_of _ _
-  end_some (Probe to table offset key hit miss) at = some_of _ _
-  end_some (Reply words) at = some_of _ _
+  end_some _ at = some_of _ _
 
   -- where a part begins
   pub enter : (at : SlotRef) (place : ℕ) (is : List Instr) → IsSuffix most r is_round at place is → (x : GraphState) (t u : Bytes) → HasBytes u → Later place x t → Stage at (record { state = x; ahead = false }) t (segments_from at is) (told_from place at is)
@@ -313,8 +297,7 @@ module _ (r : Round) (most : ℕ) (is_round : IsRound most r) (b : Bytes) where
     where
       by_run : (u : Bytes) (o : Outcome) → Came at y t u later told m.closes here o → ((z : Ghost) (w : Bytes) → Stage (slot_behind at (length here)) z w later told → Follows r b later told (slot_behind at (length here)) z w) → Comes r (Follows r b later told (slot_behind at (length here))) m.closes y (tabled t u) o
       by_run u (Went us events) k rest = (k.0, k.1, rest k.0 (placed (tabled t u) us) k.2)
-      by_run u (Faults us events) k rest = k
-      by_run u Bad k rest = k
+      by_run u _ k rest = k
 
 -- the law
 pub segments_follow : SegmentsFollow

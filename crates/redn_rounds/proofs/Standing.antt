@@ -1,7 +1,7 @@
 -- What parts leave standing.
 use Rattle.std.proofs.Common.{◌≡◌, ℕ, suc, ◌+◌, Bool, true, false, ◌||◌, List, [], ◌∷◌, ◌++◌, length, refl, sym, ap, ◌∙◌, subst, arith}
 use Rattle.std.specs.Prelude.{slice_index}
-use Rattle.std.proofs.lemmas.Bool.{false≢true, false_from_ne_true}
+use Rattle.std.proofs.lemmas.Bool.{false≢true, false_from_ne_true, or_parts as neither}
 use Rattle.redn_segment.specs.declared.types.SlotRef.{SlotRef}
 use Rattle.redn_segment.specs.declared.types.Space.TheVariants as space
 use Rattle.redn_segment.specs.declared.types.Draft.{Draft}
@@ -10,27 +10,7 @@ use Rattle.redn_segment.specs.Plain.{Bytes, View, Put, placed}
 use Rattle.redn_segment.specs.Primed.{IsPrimed, Primed, IsBytes, IsWhole, writes_at, writes_slot}
 use Rattle.redn_segment.specs.Effects.{Effect, IsLeft, is_own, slot_behind}
 use Rattle.redn_segment.specs.Parts.{IsPart}
-use Rattle.redn_segment.proofs.Composing.{Owns, lies_from, lies_to, primed_behind, primed_first}
-
-pub writes_both : (ds es : List Draft) (q : SlotRef) (i : ℕ) → writes_slot (ds ++ es) q i ≡ (writes_slot ds q i || writes_slot es q i)
-writes_both [] es q i = refl
-writes_both (d ∷ ds) es q i =
-    ap (λ (b : Bool). writes_at (space.Slot q) i d || b) (writes_both ds es q i) ∙ or_assoc (writes_at (space.Slot q) i d) (writes_slot ds q i) (writes_slot es q i)
-  where
-    or_assoc : (a b c : Bool) → a || (b || c) ≡ (a || b) || c
-    or_assoc true b c = refl
-    or_assoc false b c = refl
-
-pub neither : (a b : Bool) → a || b ≡ false → (a ≡ false) × (b ≡ false)
-neither false b h = (refl, h)
-neither true b h = absurd (false≢true (sym h))
-
--- slots of which other drafts write the same
-primed_by : (all part ds : List Draft) (at : SlotRef) (s : Bytes) → ((q : SlotRef) (i : ℕ) → Owns at (length ds) q → writes_slot part q i ≡ false → writes_slot all q i ≡ false) → Primed all at ds s → Primed part at ds s
-primed_by all part [] at s h p = p
-primed_by all part (d ∷ ds) at s h p =
-    let one : IsPrimed (writes_slot part at) d (s (space.Slot at)) = record { len = p.0.len; bytes = λ i small says_it untouched. p.0.bytes i small says_it (h at i (lies_to at (suc (length ds)) at (refl, omega arith, omega arith)) untouched) } in
-    (one, primed_by all part ds (next_slot at) s (λ q i o. h q i (let l = lies_from (next_slot at) (length ds) q o in let low = l.1 in let high = l.2 in lies_to at (suc (length ds)) q (l.0, omega arith, omega arith))) p.1)
+use Rattle.redn_segment.proofs.Composing.{Owns, lies_from, lies_to, primed_behind, primed_first, writes_both, primed_by}
 
 -- the second of two parts is primed where both are
 module _ (at : SlotRef) (ds es : List Draft) (more : ℕ) (first second : View → Bytes → Effect) (p : IsPart at ds 0 first) (r : IsPart (slot_behind at (length ds)) es more second) where

@@ -22,34 +22,16 @@ use Rattle.redn_segment.specs.declared.types.Draft.{Draft}
 use Rattle.redn_segment.specs.Sites.{space_of, is_table, kind_of, offset_of, inside}
 use Rattle.redn_segment.specs.Plain.{Bytes, Put, Outcome, Went, Faults, Bad, with_event, acts, fits, reaches, past_table, is_atomic, is_length, request_of, origin, local_space, remote_space, local_bytes, remote_bytes, remote_at, to_local, to_remote, first_in, swap}
 use Rattle.redn_rounds.specs.Truth.{IsTrueBy}
+use Rattle.redn_segment.proofs.PutSides.{not_past as past_stays}
 
 -- one event
 pub event_is : (us vs : List Put) (o e : Obs) → with_event us o ≡ Went vs (e ∷ []) → (o ≡ e) × (us ≡ vs)
-event_is us vs shows.Nothing e h = absurd (cc)
 event_is us vs (shows.Set c x w) e h = (cc, cc)
 event_is us vs (shows.Load c x t o w) e h = (cc, cc)
 event_is us vs (shows.Look c t o w) e h = (cc, cc)
 event_is us vs (shows.Store c t o w) e h = (cc, cc)
 event_is us vs (shows.Reply c n ws) e h = (cc, cc)
-event_is us vs (shows.Fault c t o) e h = absurd (cc)
-event_is us vs (shows.Stale q i) e h = absurd (cc)
-event_is us vs (shows.Undefined q i) e h = absurd (cc)
-event_is us vs (shows.Refused q i) e h = absurd (cc)
-event_is us vs (shows.Odd q i) e h = absurd (cc)
-
--- a place past the end of a table goes nowhere
-past_table_stays : (chain : ℕ) (slot : List ℕ) (d : Draft) (t : ℕ) (b : Bool) (vs : List Put) (l : List Obs) → cond b (Faults [] (shows.Fault chain t (remote_at slot d) ∷ [])) Bad ≡ Went vs l → ⊥
-past_table_stays chain slot d t true vs l h = cc
-past_table_stays chain slot d t false vs l h = cc
-
-past_stays : (chain : ℕ) (slot : List ℕ) (d : Draft) (p : Space) (vs : List Put) (l : List Obs) → past_table chain slot d p ≡ Went vs l → ⊥
-past_stays chain slot d (space.Table t) vs l h = past_table_stays chain slot d t (d.length == 8) vs l h
-past_stays chain slot d (space.Cell c) vs l h = cc
-past_stays chain slot d space.Reply vs l h = cc
-past_stays chain slot d space.Key vs l h = cc
-past_stays chain slot d (space.Scratch i) vs l h = cc
-past_stays chain slot d (space.Descriptor r) vs l h = cc
-past_stays chain slot d (space.Slot q) vs l h = cc
+event_is us vs _ e h = absurd (cc)
 
 -- an access that shows an event fits and reaches
 pub record Shown (b : Bool) (o e : Obs) (us vs : List Put) : Type 0 where
@@ -66,14 +48,8 @@ shown_by true true past us vs o e none h = let k = event_is us vs o e h in recor
 table_kind : (x : Site) (t : ℕ) → kind_of (space_of x) ≡ kind.Table t → (is_table x ≡ true) × (space_of x ≡ space.Table t)
 table_kind (site.Table u o) t h = (refl, cc)
 table_kind (site.Cell (cell.Var i)) t h = absurd (cc)
-table_kind (site.Cell (cell.Hidden i)) t h = absurd (cc)
-table_kind (site.Cell (cell.Argument i)) t h = absurd (cc)
-table_kind (site.Cell (cell.Num i)) t h = absurd (cc)
-table_kind (site.ReplyWord i) t h = absurd (cc)
-table_kind site.Key t h = absurd (cc)
-table_kind (site.Scratch i) t h = absurd (cc)
-table_kind (site.Descriptor r) t h = absurd (cc)
-table_kind (site.Field f) t h = absurd (cc)
+table_kind (site.Cell _) t h = absurd (cc)
+table_kind _ t h = absurd (cc)
 
 -- what an access of a table saw
 pub record Saw (see : ℕ → List ℕ) (t o w : ℕ) : Type 0 where
@@ -81,9 +57,6 @@ pub record Saw (see : ℕ → List ℕ) (t o w : ℕ) : Type 0 where
   pub is : word (see t) o ≡ w
 
 module _ (see : ℕ → List ℕ) (o : Origin) (r : Request) (w : ℕ) where
-  true_odd : IsTrueBy see (odd o)
-  true_odd = tt
-
   stores : (b : Bool) (t : ℕ) → (b ≡ true → nat_le (r.remote + 8) (length (see t)) ≡ true) → IsTrueBy see (when b (shows.Store o.chain t r.remote w) o)
   stores true t h = h refl
   stores false t h = tt
@@ -103,42 +76,27 @@ module _ (see : ℕ → List ℕ) (o : Origin) (r : Request) (w : ℕ) where
   write_to_true : (kr : Kind) → ((t : ℕ) → kr ≡ kind.Table t → (r.length == 8) ≡ true → nat_le (r.remote + 8) (length (see t)) ≡ true) → IsTrueBy see (write_to o r w kr)
   write_to_true kind.Vars h = sets (r.length == 8 && r.remote % 8 == 0) _ w
   write_to_true (kind.Table t) h = stores (r.length == 8) t (h t refl)
-  write_to_true kind.Code h = tt
-  write_to_true kind.Control h = tt
-  write_to_true kind.Message h = tt
+  write_to_true _ h = tt
 
   write_true : (kl kr : Kind) → ((t : ℕ) → kr ≡ kind.Table t → (r.length == 8) ≡ true → nat_le (r.remote + 8) (length (see t)) ≡ true) → IsTrueBy see (write_shows o r w kl kr)
-  write_true kind.Vars kr h = write_to_true kr h
   write_true (kind.Table t) kr h = tt
-  write_true kind.Code kr h = write_to_true kr h
-  write_true kind.Control kr h = write_to_true kr h
-  write_true kind.Message kr h = write_to_true kr h
+  write_true _ kr h = write_to_true kr h
 
   hidden_true : (kr : Kind) → ((t : ℕ) → kr ≡ kind.Table t → (r.length == 8) ≡ true → Saw see t r.remote w) → IsTrueBy see (read_hidden o r w kr)
-  hidden_true kind.Vars h = tt
   hidden_true (kind.Table t) h = looks (r.length == 8) t (h t refl)
-  hidden_true kind.Code h = tt
-  hidden_true kind.Control h = tt
-  hidden_true kind.Message h = tt
+  hidden_true _ h = tt
 
   into_vars_true : (kr : Kind) → ((t : ℕ) → kr ≡ kind.Table t → (r.length == 8) ≡ true → Saw see t r.remote w) → IsTrueBy see (read_into_vars o r w kr)
-  into_vars_true kind.Vars h = sets (r.length == 8 && r.local % 8 == 0) _ w
   into_vars_true (kind.Table t) h = loads (r.length == 8 && r.local % 8 == 0) _ t (λ e. h t refl (and_parts (r.length == 8) (r.local % 8 == 0) e).0)
-  into_vars_true kind.Code h = sets (r.length == 8 && r.local % 8 == 0) _ w
-  into_vars_true kind.Control h = sets (r.length == 8 && r.local % 8 == 0) _ w
-  into_vars_true kind.Message h = sets (r.length == 8 && r.local % 8 == 0) _ w
+  into_vars_true _ h = sets (r.length == 8 && r.local % 8 == 0) _ w
 
   read_true : (kl kr : Kind) → ((t : ℕ) → kr ≡ kind.Table t → (r.length == 8) ≡ true → Saw see t r.remote w) → IsTrueBy see (read_shows o r w kl kr)
   read_true kind.Vars kr h = into_vars_true kr h
-  read_true (kind.Table t) kr h = tt
   read_true kind.Code kr h = hidden_true kr h
   read_true kind.Control kr h = hidden_true kr h
-  read_true kind.Message kr h = tt
+  read_true _ kr h = tt
 
   add_true : (kl kr : Kind) → IsTrueBy see (add_shows o r w kl kr)
-  add_true kind.Vars kr = tt
-  add_true (kind.Table t) kr = tt
-  add_true kind.Message kr = tt
   add_true kind.Code kr = add_to_true kr
     where
       add_to_true : (kr : Kind) → IsTrueBy see (add_to o r w kr)
@@ -155,6 +113,7 @@ module _ (see : ℕ → List ℕ) (o : Origin) (r : Request) (w : ℕ) where
       add_to_true kind.Code = tt
       add_to_true kind.Control = tt
       add_to_true kind.Message = tt
+  add_true _ kr = tt
 
 -- an atomic access and a SEND show no table
 when_silent : (b : Bool) (o : Origin) (us vs : List Put) (e : Obs) → with_event us (when b shows.Nothing o) ≡ Went vs (e ∷ []) → ⊥
@@ -175,10 +134,7 @@ send_true see o r sent kind.Control = by_length (r.length % 8 == 0 && nat_le r.l
     by_length : (b : Bool) → IsTrueBy see (when b (shows.Reply o.chain (r.length / 8) (reply_words (r.length / 8) sent)) o)
     by_length true = tt
     by_length false = tt
-send_true see o r sent kind.Vars = tt
-send_true see o r sent (kind.Table t) = tt
-send_true see o r sent kind.Code = tt
-send_true see o r sent kind.Message = tt
+send_true see o r sent _ = tt
 
 -- what reaches a table lies in it
 module _ (s : Bytes) (slot : List ℕ) (d : Draft) where
@@ -206,7 +162,6 @@ module _ (s : Bytes) (slot : List ℕ) (d : Draft) where
   -- the event of a draft is true of the tables
   pub acts_true : (chain : ℕ) (op : Opcode) (us : List Put) (e : Obs) → acts chain s slot d op ≡ Went us (e ∷ []) → IsTrueBy see e
   unfolding acts
-  acts_true chain Noop us e h = absurd (cc)
   acts_true chain Write us e h =
       let w : ℕ = word (local_bytes s d d.length) 0 in
       let o : Obs = write_shows (origin chain) (request_of slot d) w (kind_of (local_space d)) (kind_of (remote_space d)) in
@@ -227,6 +182,4 @@ module _ (s : Bytes) (slot : List ℕ) (d : Draft) where
   acts_true chain Send us e h =
       let k = told_by (is_length d.length && (not (is_table d.local) && inside d.local d.local_byte d.length)) [] us (send_shows (origin chain) (request_of slot d) (local_bytes s d d.length) (kind_of (local_space d))) e h in
       subst (IsTrueBy see) k.0 (send_true see (origin chain) (request_of slot d) (local_bytes s d d.length) (kind_of (local_space d)))
-  acts_true chain Wait us e h = absurd (cc)
-  acts_true chain Enable us e h = absurd (cc)
-  acts_true chain (Undefined n) us e h = absurd (cc)
+  acts_true chain _ us e h = absurd (cc)

@@ -18,7 +18,7 @@ use Rattle.redn_segment.specs.Plain.{Bytes, View, Put, placed, Outcome, Went, Fa
 use Rattle.redn_segment.specs.Primed.{IsBytes, SeesBytes}
 use Rattle.redn_segment.specs.Effects.{is_own, slot_behind}
 use Rattle.redn_segment.proofs.PutSides.{went_if, went_reach}
-use Rattle.redn_segment.proofs.Composing.{Owns, lies_from, lies_to, not_owns}
+use Rattle.redn_segment.proofs.Composing.{Owns, lies_from, lies_to, not_owns, apart as behind_other}
 use Rattle.redn_rings.specs.Runs.{own_view}
 use Rattle.redn_block.specs.Plays.{IsTrueOf}
 use Rattle.redn_rounds.specs.Truth.{IsTrueBy}
@@ -53,27 +53,18 @@ module _ (at : SlotRef) (n : ℕ) (v w : View) where
       by_own true e = subst (λ (f : ℕ → List ℕ). IsBytes (f t)) (sym (split_here q e)) (a q t)
       by_own false e = subst (λ (f : ℕ → List ℕ). IsBytes (f t)) (sym (split_there q e)) (b q t)
 
-pub behind_other : (at : SlotRef) (n m : ℕ) (q : SlotRef) → Owns (slot_behind at n) m q → is_own at n (space.Slot q) ≡ false
-behind_other at n m q o = let l = lies_from (slot_behind at n) m q o in let low = l.1 in not_owns at n q (λ k. let high = k.2 in omega arith)
-
 -- a draft shows one event at most
 few : (us vs : List Put) (o e : Obs) (rest : List Obs) → with_event us o ≡ Went vs (e ∷ rest) → rest ≡ []
-few us vs shows.Nothing e rest h = absurd (cc)
 few us vs (shows.Set c x w) e rest h = cc
 few us vs (shows.Load c x t o w) e rest h = cc
 few us vs (shows.Look c t o w) e rest h = cc
 few us vs (shows.Store c t o w) e rest h = cc
 few us vs (shows.Reply c n ws) e rest h = cc
-few us vs (shows.Fault c t o) e rest h = absurd (cc)
-few us vs (shows.Stale q i) e rest h = absurd (cc)
-few us vs (shows.Undefined q i) e rest h = absurd (cc)
-few us vs (shows.Refused q i) e rest h = absurd (cc)
-few us vs (shows.Odd q i) e rest h = absurd (cc)
+few us vs _ e rest h = absurd (cc)
 
 module _ (chain : ℕ) (s : Bytes) (slot : List ℕ) (d : Draft) (us : List Put) (e : Obs) (rest : List Obs) where
   acts_few : (op : Opcode) → acts chain s slot d op ≡ Went us (e ∷ rest) → rest ≡ []
   unfolding acts
-  acts_few Noop h = absurd (cc)
   acts_few Write h =
       let a = went_if (fits d d.length) _ us (e ∷ rest) h in
       let b = went_reach (reaches s slot d d.length) chain slot d _ us (e ∷ rest) a.1 in
@@ -93,9 +84,7 @@ module _ (chain : ℕ) (s : Bytes) (slot : List ℕ) (d : Draft) (us : List Put)
   acts_few Send h =
       let a = went_if (is_length d.length && (not (is_table d.local) && inside d.local d.local_byte d.length)) _ us (e ∷ rest) h in
       few [] us _ e rest a.1
-  acts_few Wait h = absurd (cc)
-  acts_few Enable h = absurd (cc)
-  acts_few (Undefined n) h = absurd (cc)
+  acts_few _ h = absurd (cc)
 
 -- the events of a run are true of the tables that it saw
 module _ (number : ℕ) (u : Bytes) where
@@ -115,8 +104,7 @@ module _ (number : ℕ) (u : Bytes) where
 
   after_true : (vs : List Put) (l : List Obs) → AllTrue l → (o : Outcome) → IsTrue o → IsTrue (after vs l o)
   after_true vs l h (Went ws m) is us events k = let same : l ++ m ≡ events = cc in subst AllTrue same (all_true l m h (is ws m refl))
-  after_true vs l h (Faults ws m) is us events k = absurd (cc)
-  after_true vs l h Bad is us events k = absurd (cc)
+  after_true vs l h _ is us events k = absurd (cc)
 
   step_true : (d : Draft) (at : SlotRef) (s : Bytes) (vs : List Put) (l : List Obs) → step (own_view number u) at d s ≡ Went vs l → AllTrue l
   step_true d at s vs [] h = tt
@@ -128,8 +116,7 @@ module _ (number : ℕ) (u : Bytes) where
 
   follow_true : (rest : List Put → Outcome) → ((vs : List Put) → IsTrue (rest vs)) → (o : Outcome) → IsTrue o → IsTrue (follow o rest)
   follow_true rest h (Went vs l) one us events k = after_true vs l (one vs l refl) (rest vs) (h vs) us events k
-  follow_true rest h (Faults vs l) one us events k = absurd (cc)
-  follow_true rest h Bad one us events k = absurd (cc)
+  follow_true rest h _ one us events k = absurd (cc)
 
   pub runs_true : (ds : List Draft) (at : SlotRef) (s : Bytes) → IsTrue (runs (own_view number u) at ds s)
   runs_true [] at s us events h = let none : [] ≡ events = cc in subst AllTrue none tt
@@ -154,10 +141,4 @@ true_of u (shows.Load c x t o w) h = (ap (λ (b : List ℕ). nat_le (o + 8) (len
 true_of u (shows.Look c t o w) h = (ap (λ (b : List ℕ). nat_le (o + 8) (length b)) (there_is u t) ∙ h.0, ap (λ (b : List ℕ). word b o) (there_is u t) ∙ h.1)
 true_of u (shows.Store c t o w) h = ap (λ (b : List ℕ). nat_le (o + 8) (length b)) (there_is u t) ∙ h
 true_of u (shows.Fault c t o) h = ap (λ (b : List ℕ). nat_le (o + 8) (length b)) (there_is u t) ∙ h
-true_of u shows.Nothing h = tt
-true_of u (shows.Set c x w) h = tt
-true_of u (shows.Reply c n ws) h = tt
-true_of u (shows.Stale q i) h = tt
-true_of u (shows.Undefined q i) h = tt
-true_of u (shows.Refused q i) h = tt
-true_of u (shows.Odd q i) h = tt
+true_of u _ h = tt

@@ -41,7 +41,8 @@ module _ (r : Round) where
   abbrev pub Starts : Bool → ℕ → Ghost → Type 0
   Starts opens place y = opens ≡ true → (y.ahead ≡ false) × IsAt r.number place y.state
 
-  -- segments from a slot on, of each of which it is told where it is: each sees other tables, none goes badly, and behind the last one the block is over, which began with the state b
+  -- segments from a slot on, of each of which it is told where it is: each sees other tables, none goes badly, and behind the last one the block is
+  -- over, which began with the state b
   abbrev pub Follows : Bytes → List (List Draft) → List Mark → SlotRef → Ghost → Bytes → Type 0
   Follows b [] told at y t = Done b y.state t × (y.ahead ≡ false)
   Follows b (here ∷ later) [] at y t = ⊥
@@ -51,4 +52,5 @@ module _ (r : Round) where
 -- the segments of a block's ring follow its graph from the block's beginning
 abbrev pub SegmentsFollow : Type 0
 SegmentsFollow =
-    (most : ℕ) (r : Round) → IsRound most r → (x : GraphState) (t : Bytes) → Later r t 0 x t → Follows r t (segments r) (marks r) (begins r) (record { state = x; ahead = false }) t
+    (most : ℕ) (r : Round) → IsRound most r → (x : GraphState) (t : Bytes) → Later r t 0 x t
+    → Follows r t (segments r) (marks r) (begins r) (record { state = x; ahead = false }) t

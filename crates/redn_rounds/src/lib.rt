@@ -1,4 +1,6 @@
-//! Rounds of blocks: the segments of a block's ring, one after the other, follow the block's graph.
+//! Rounds of blocks: a round is one pass through the segments of a block's ring.
+//! The law: the segments make the steps of the block's graph, whatever tables each of them sees. Each
+//! shows what its steps show, and behind the last one the block is over.
 #![tactic(auto)]
 
 mod laws;

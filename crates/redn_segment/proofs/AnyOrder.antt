@@ -11,7 +11,8 @@ use Rattle.redn_words.specs.declared.types.Origin.{Origin}
 use Rattle.redn_words.specs.Words.{bytes_at}
 use Rattle.redn_words.specs.Requests.{decoded}
 use Rattle.redn_words.specs.Landings.{Change, Landing, changed, landing}
-use Rattle.redn_words.proofs.Bytes.{byte, hits, over, over_missed, byte-changed, length-changed, same_range}
+use Rattle.redn_words.proofs.Bytes.{over_missed, byte-changed, length-changed, same_range}
+use Rattle.redn_words.specs.Bytes.{byte, hits, over}
 use Rattle.redn_words.specs.Ranges.{Fits}
 use Rattle.redn_words.proofs.Footprints.{landing_same, landing_hits, landing_fits}
 use Rattle.redn_words.specs.Ranges.{holds}
@@ -31,12 +32,12 @@ use Rattle.redn_segment.proofs.SameSpace.{same_space_is, is_table_space, table_s
 use Rattle.redn_segment.proofs.Sides.{IsSide, side_test}
 use Rattle.redn_segment.proofs.Touching.{In, one_space, free_apart, writes_in, reads_in, landing_reads}
 
-all_at : {X : Type 0} (test : X → Bool) (xs : List X) (k : ℕ) (x : X) → list_all test xs ≡ true → slice_get xs k ≡ Some x → test x ≡ true
+pub all_at : {X : Type 0} (test : X → Bool) (xs : List X) (k : ℕ) (x : X) → list_all test xs ≡ true → slice_get xs k ≡ Some x → test x ≡ true
 all_at test [] k x h e = absurd (cc)
 all_at test (y ∷ xs) zero x h e = let parts = and_parts (test y) (list_all test xs) h in let same : y ≡ x = cc in ap test (sym same) ∙ parts.0
 all_at test (y ∷ xs) (suc k) x h e = let parts = and_parts (test y) (list_all test xs) h in all_at test xs k x parts.1 e
 
-free_at : (ds : List Draft) (j k : ℕ) (d e : Draft) → all_free ds ≡ true → j < k → slice_get ds j ≡ Some d → slice_get ds k ≡ Some e → drafts_free d e ≡ true
+pub free_at : (ds : List Draft) (j k : ℕ) (d e : Draft) → all_free ds ≡ true → j < k → slice_get ds j ≡ Some d → slice_get ds k ≡ Some e → drafts_free d e ≡ true
 free_at [] j k d e h l f g = absurd (cc)
 free_at (c ∷ ds) j zero d e h l f g = absurd (omega arith)
 free_at (c ∷ ds) zero (suc k) d e h l f g =
@@ -309,9 +310,6 @@ module _ (home : Space → Home) (mine : Space → Bool) (regions : List Region)
 
     whole_order : Whole order
     whole_order = (λ x l. as_often x ∙ whole_range.0 x l, λ x l. as_often x ∙ whole_range.1 x l)
-
-    none_done : ℕ → Bool
-    none_done k = false
 
     whole_fresh : (ks : List ℕ) → Whole ks → Fresh n (λ k. false) ks
     whole_fresh ks w =

@@ -3,7 +3,7 @@ use Rattle.std.proofs.Common.{◌≡◌, ℕ, ◌+◌, Bool, ◌&&◌, List, [],
 use Rattle.std.specs.List.{list_all}
 use Rattle.std.proofs.lemmas.List.{length-map}
 use Rattle.redn_words.specs.declared.types.Opcode.{Opcode}
-use Rattle.redn_words.specs.declared.types.Opcode.TheVariants.{Noop, Write, Read, Cas, Add, Send, Wait, Enable, Undefined}
+use Rattle.redn_words.specs.declared.types.Opcode.TheVariants.{Noop}
 use Rattle.redn_segment.specs.declared.types.SlotRef.{SlotRef}
 use Rattle.redn_segment.specs.declared.types.Side.{Side}
 use Rattle.redn_segment.specs.declared.types.Space.{Space}
@@ -26,25 +26,11 @@ module _ (ring first : ℕ) where
 
   local_moved : (test : Side → Bool) (d : Draft) (o : Opcode) → holds_of test (local_by (renamed at d) o) ≡ holds_of (λ (a : Side). test (side_moved a)) (local_by d o)
   local_moved test d Noop = refl
-  local_moved test d Write = refl
-  local_moved test d Read = refl
-  local_moved test d Cas = refl
-  local_moved test d Add = refl
-  local_moved test d Send = refl
-  local_moved test d Wait = refl
-  local_moved test d Enable = refl
-  local_moved test d (Undefined n) = refl
+  local_moved test d _ = refl
 
   remote_moved : (test : Side → Bool) (d : Draft) (o : Opcode) → holds_of test (remote_by (renamed at d) o) ≡ holds_of (λ (a : Side). test (side_moved a)) (remote_by d o)
   remote_moved test d Noop = refl
-  remote_moved test d Write = refl
-  remote_moved test d Read = refl
-  remote_moved test d Cas = refl
-  remote_moved test d Add = refl
-  remote_moved test d Send = refl
-  remote_moved test d Wait = refl
-  remote_moved test d Enable = refl
-  remote_moved test d (Undefined n) = refl
+  remote_moved test d _ = refl
 
   both_moved : (test other : Side → Bool) (d : Draft) → ((a : Side) → test (side_moved a) ≡ other a) → both_sides test (renamed at d) ≡ both_sides other d
   both_moved test other d h =

@@ -1,11 +1,10 @@
 -- Two parts that follow one another are a part.
 use Rattle.std.proofs.Common.{◌≡◌, ℕ, suc, ◌+◌, ◌<◌, ◌≤◌, ◌⊎◌, inl, inr, Bool, true, false, ◌&&◌, ◌||◌, List, [], ◌∷◌, ◌++◌, length, refl, sym, ap, ◌∙◌, subst, arith, length-append, append_assoc}
 use Rattle.std.specs.Prelude.{slice_index, ◌==◌, nat_le, nat_lt}
-use Rattle.std.proofs.lemmas.Bool.{false≢true, eqb-true, eq-eqb}
+use Rattle.std.proofs.lemmas.Bool.{false≢true, eqb-true, eq-eqb, or_parts as neither, and_parts as both}
 use Rattle.std.proofs.lemmas.Bool.Decides.{nat_tests}
 use Rattle.redn_words.specs.declared.types.Obs.{Obs}
 use Rattle.redn_kernel.specs.declared.types.Cell.TheVariants.{Num}
-use Rattle.redn_segment.proofs.Kept.{both}
 use Rattle.redn_segment.specs.declared.types.SlotRef.{SlotRef}
 use Rattle.redn_segment.specs.declared.types.Space.{Space}
 use Rattle.redn_segment.specs.declared.types.Space.TheVariants as space
@@ -33,14 +32,12 @@ behind_none at = ap (λ (k : ℕ). let q : SlotRef = record at { slot = k } in q
 
 after_nothing : (o : Outcome) → after [] [] o ≡ o
 after_nothing (Went us shown) = refl
-after_nothing (Faults us shown) = refl
-after_nothing Bad = refl
+after_nothing _ = refl
 
 module _ (chain : View) (es : List Draft) where
   follows_after : (us : List Put) (shown : List Obs) (o : Outcome) (q : SlotRef) (s : Bytes) → after us shown (follow o (λ (vs : List Put). runs chain q es (placed (placed s us) vs))) ≡ follow (after us shown o) (λ (vs : List Put). runs chain q es (placed s vs))
   follows_after us shown (Went vs more) q s = after_after us vs shown more (runs chain q es (placed (placed s us) vs)) ∙ ap (λ (t : Bytes). after (us ++ vs) (shown ++ more) (runs chain q es t)) (sym (placed_append us vs s))
-  follows_after us shown (Faults vs more) q s = refl
-  follows_after us shown Bad q s = refl
+  follows_after us shown _ q s = refl
 
   follows : (ds : List Draft) (at : SlotRef) (s : Bytes) → ((t : Bytes) → runs chain (next_slot at) (ds ++ es) t ≡ follow (runs chain (next_slot at) ds t) (λ (us : List Put). runs chain (slot_behind at (suc (length ds))) es (placed t us))) → (o : Outcome) → follow o (λ (us : List Put). runs chain (next_slot at) (ds ++ es) (placed s us)) ≡ follow (follow o (λ (us : List Put). runs chain (next_slot at) ds (placed s us))) (λ (us : List Put). runs chain (slot_behind at (suc (length ds))) es (placed s us))
   follows ds at s rest (Went us shown) =
@@ -108,7 +105,7 @@ owns_behind at k n m q e o =
     let high : q.slot < (at.slot + k) + n = l.2 in
     lies_to at m q (l.0, omega arith, omega arith)
 
-apart : (at : SlotRef) (k n : ℕ) (q : SlotRef) → Owns (slot_behind at k) n q → is_own at k (space.Slot q) ≡ false
+pub apart : (at : SlotRef) (k n : ℕ) (q : SlotRef) → Owns (slot_behind at k) n q → is_own at k (space.Slot q) ≡ false
 apart at k n q o =
     let l = lies_from (slot_behind at k) n q o in
     let low : at.slot + k ≤ q.slot = l.1 in
@@ -126,12 +123,12 @@ primed_same all [] at s t h l p = subst (λ (q : SlotRef). length (t (space.Slot
 primed_same all (d ∷ es) at s t h l p =
     (subst (IsPrimed (writes_slot all at) d) (sym (h at (owns_itself at (length (d ∷ es)) (omega arith)))) p.0, primed_same all es (next_slot at) s t (λ q o. h q (owns_next at (length es) q o)) (subst (λ (q : SlotRef). length (t (space.Slot q)) ≡ 64) (sym (behind_next at (length es))) l) p.1)
 
-ends_long : (all es : List Draft) (at : SlotRef) (s : Bytes) → Primed all at es s → length (s (space.Slot (slot_behind at (length es)))) ≡ 64
+pub ends_long : (all es : List Draft) (at : SlotRef) (s : Bytes) → Primed all at es s → length (s (space.Slot (slot_behind at (length es)))) ≡ 64
 ends_long all [] at s p = subst (λ (q : SlotRef). length (s (space.Slot q)) ≡ 64) (sym (behind_none at)) p
 ends_long all (d ∷ es) at s p = subst (λ (q : SlotRef). length (s (space.Slot q)) ≡ 64) (behind_next at (length es)) (ends_long all es (next_slot at) s p.1)
 
 -- as are slots of which other drafts write the same
-primed_by : (all part ds : List Draft) (at : SlotRef) (s : Bytes) → ((q : SlotRef) (i : ℕ) → Owns at (length ds) q → writes_slot part q i ≡ false → writes_slot all q i ≡ false) → Primed all at ds s → Primed part at ds s
+pub primed_by : (all part ds : List Draft) (at : SlotRef) (s : Bytes) → ((q : SlotRef) (i : ℕ) → Owns at (length ds) q → writes_slot part q i ≡ false → writes_slot all q i ≡ false) → Primed all at ds s → Primed part at ds s
 primed_by all part [] at s h p = p
 primed_by all part (d ∷ ds) at s h p = (
   record {
@@ -159,7 +156,7 @@ primed_joined all [] es at s p r = subst (λ (q : SlotRef). Primed all q es s) (
 primed_joined all (d ∷ ds) es at s p r =
     (p.0, primed_joined all ds es (next_slot at) s p.1 (subst (λ (q : SlotRef). Primed all q es s) (sym (behind_next at (length ds))) r))
 
-writes_both : (ds es : List Draft) (q : SlotRef) (i : ℕ) → writes_slot (ds ++ es) q i ≡ (writes_slot ds q i || writes_slot es q i)
+pub writes_both : (ds es : List Draft) (q : SlotRef) (i : ℕ) → writes_slot (ds ++ es) q i ≡ (writes_slot ds q i || writes_slot es q i)
 writes_both [] es q i = refl
 writes_both (d ∷ ds) es q i =
     ap (λ (b : Bool). writes_at (space.Slot q) i d || b) (writes_both ds es q i) ∙ or_assoc (writes_at (space.Slot q) i d) (writes_slot ds q i) (writes_slot es q i)
@@ -167,10 +164,6 @@ writes_both (d ∷ ds) es q i =
     or_assoc : (a b c : Bool) → a || (b || c) ≡ (a || b) || c
     or_assoc true b c = refl
     or_assoc false b c = refl
-
-neither : (a b : Bool) → a || b ≡ false → (a ≡ false) × (b ≡ false)
-neither true b h = absurd (false≢true (sym h))
-neither false b h = (refl, h)
 
 unwritten : (at : SlotRef) (n : ℕ) (ds : List Draft) → WritesWithin at n ds → (q : SlotRef) (i : ℕ) → is_own at n (space.Slot q) ≡ false → writes_slot ds q i ≡ false
 unwritten at n ds within q i h =

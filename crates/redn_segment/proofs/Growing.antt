@@ -1,5 +1,5 @@
 -- A ring grows by segments, whose footprints lie apart from its end on.
-use Rattle.std.proofs.Common.{◌≡◌, ℕ, ◌+◌, ◌≤◌, true, ◌&&◌, List, [], ◌∷◌, ◌++◌, length, sym, ap, ◌∙◌, arith, length-append}
+use Rattle.std.proofs.Common.{◌≡◌, ℕ, ◌+◌, true, ◌&&◌, List, [], ◌∷◌, ◌++◌, length, sym, ap, ◌∙◌, arith, length-append}
 use Rattle.std.proofs.lemmas.List.Concat.{flat_map-append}
 use Rattle.std.proofs.lemmas.Bool.{and_parts}
 use Rattle.std.proofs.Math.Bool.{and_assoc}
@@ -40,8 +40,3 @@ module _ (b : Building) (done : List (List Draft)) (ds : List Draft) (rest : Lis
       let parts = and_parts (segments_apart (first_slot b) done) (segments_apart (slot_behind (first_slot b) (length (drafts_of done))) (ds ∷ rest)) (sym (apart_append (first_slot b) done (ds ∷ rest)) ∙ h) in
       let here = and_parts (is_apart ds (slot_behind (first_slot b) (length (drafts_of done)))) _ parts.1 in
       ap (is_apart ds) (first_behind b done) ∙ here.0
-
-  -- and has room
-  pub next_fits : length (drafts_of (with_more b done).segments) + length ds ≤ length (drafts_of b.segments) + length (drafts_of (done ++ ds ∷ rest))
-  next_fits =
-      omega (arith, length-drafts b.segments done, length-drafts done (ds ∷ rest), length-append ds (drafts_of rest))

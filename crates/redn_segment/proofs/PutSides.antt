@@ -3,7 +3,7 @@ use Rattle.std.proofs.Common.{◌≡◌, inl, inr, ℕ, ◌+◌, ◌≤◌, Bool
 use Rattle.redn_words.specs.declared.types.Obs.{Obs}
 use Rattle.redn_words.specs.declared.types.Obs.TheVariants as shows
 use Rattle.redn_words.specs.declared.types.Opcode.{Opcode}
-use Rattle.redn_words.specs.declared.types.Opcode.TheVariants.{Noop, Write, Read, Cas, Add, Send, Wait, Enable, Undefined}
+use Rattle.redn_words.specs.declared.types.Opcode.TheVariants.{Noop, Write, Read, Cas, Add, Send}
 use Rattle.redn_words.specs.Words.{bytes_at, number, word, spelled}
 use Rattle.redn_words.specs.Landings.{sum_of}
 use Rattle.redn_words.proofs.Numbers.{length-spelled}
@@ -19,35 +19,25 @@ use Rattle.redn_segment.proofs.Sides.{IsSide, LocalSide, RemoteSide, side_at, wr
 
 -- what an event carries along are its puts
 pub with_event_puts : (us vs : List Put) (o : Obs) (events : List Obs) → with_event us o ≡ Went vs events → us ≡ vs
-with_event_puts us vs shows.Nothing events e = cc
-with_event_puts us vs (shows.Set c v w) events e = cc
-with_event_puts us vs (shows.Load c v t o w) events e = cc
-with_event_puts us vs (shows.Look c t o w) events e = cc
-with_event_puts us vs (shows.Store c t o w) events e = cc
-with_event_puts us vs (shows.Reply c n ws) events e = cc
 with_event_puts us vs (shows.Fault c t o) events e = absurd (cc)
 with_event_puts us vs (shows.Stale q i) events e = absurd (cc)
 with_event_puts us vs (shows.Undefined q i) events e = absurd (cc)
 with_event_puts us vs (shows.Refused q i) events e = absurd (cc)
 with_event_puts us vs (shows.Odd q i) events e = absurd (cc)
+with_event_puts us vs _ events e = cc
 
 -- a step that goes through passed its tests
 pub went_if : (b : Bool) (o : Outcome) (us : List Put) (events : List Obs) → cond (not b) Bad o ≡ Went us events → (b ≡ true) × (o ≡ Went us events)
 went_if true o us events e = (refl, e)
 went_if false o us events e = absurd (cc)
 
-not_past : (chain : ℕ) (slot : List ℕ) (d : Draft) (p : Space) (us : List Put) (events : List Obs) → past_table chain slot d p ≡ Went us events → ⊥
+pub not_past : (chain : ℕ) (slot : List ℕ) (d : Draft) (p : Space) (us : List Put) (events : List Obs) → past_table chain slot d p ≡ Went us events → ⊥
 not_past chain slot d (space.Table t) us events e = by_length (d.length == 8) e
   where
     by_length : (b : Bool) → cond b (Faults [] (shows.Fault chain t (remote_at slot d) ∷ [])) Bad ≡ Went us events → ⊥
     by_length true f = cc
     by_length false f = cc
-not_past chain slot d (space.Cell c) us events e = cc
-not_past chain slot d space.Reply us events e = cc
-not_past chain slot d space.Key us events e = cc
-not_past chain slot d (space.Scratch i) us events e = cc
-not_past chain slot d (space.Descriptor i) us events e = cc
-not_past chain slot d (space.Slot q) us events e = cc
+not_past chain slot d _ us events e = cc
 
 pub went_reach : (b : Bool) (chain : ℕ) (slot : List ℕ) (d : Draft) (o : Outcome) (us : List Put) (events : List Obs) → cond (not b) (past_table chain slot d (remote_space d)) o ≡ Went us events → (b ≡ true) × (o ≡ Went us events)
 went_reach true chain slot d o us events e = (refl, e)
@@ -119,6 +109,4 @@ module _ (d : Draft) (slot : List ℕ) where
       let sum : ℕ = sum_of (request_of slot d) old in
       subst (λ (l : List Put). AllIn d l) (with_event_puts (to_remote slot d (spelled 8 sum) ∷ to_local d (spelled 8 old) ∷ []) us _ events a.1) (remote_put 8 (spelled 8 sum) (add_remote d f) (word_short sum), (local_put 8 (spelled 8 old) (add_local d f) (word_short old), tt))
   puts_in chain s Send us events f e = subst (λ (l : List Put). AllIn d l) (sym (send_none chain s slot d us events e)) tt
-  puts_in chain s Wait us events f e = absurd (cc)
-  puts_in chain s Enable us events f e = absurd (cc)
-  puts_in chain s (Undefined n) us events f e = absurd (cc)
+  puts_in chain s _ us events f e = absurd (cc)

@@ -34,9 +34,4 @@ is_table_space _ = false
 
 pub table_space : (x : Site) → is_table x ≡ is_table_space (space_of x)
 table_space (site.Cell c) = refl
-table_space (site.ReplyWord i) = refl
-table_space site.Key = refl
-table_space (site.Scratch i) = refl
-table_space (site.Descriptor i) = refl
-table_space (site.Field f) = refl
-table_space (site.Table t n) = refl
+table_space _ = refl

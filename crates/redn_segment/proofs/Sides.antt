@@ -1,6 +1,6 @@
 -- The two sides of a draft, and the places of allowed accesses.
-use Rattle.std.proofs.Common.{◌≡◌, ℕ, ◌+◌, ◌-◌, ◌*◌, ◌<◌, ◌≤◌, ◌⊎◌, inl, inr, Bool, true, false, not, cond, ◌||◌, ◌==◌, refl, sym, ap, ◌∙◌, arith}
-use Rattle.std.specs.Prelude.{List, nat_lt, nat_le, Option, Some, Result, Ok, Err}
+use Rattle.std.proofs.Common.{◌≡◌, ℕ, ◌+◌, ◌-◌, ◌*◌, ◌<◌, ◌≤◌, ◌⊎◌, inl, inr, Bool, true, false, not, ◌||◌, ◌==◌, refl, sym, ap, ◌∙◌, arith}
+use Rattle.std.specs.Prelude.{List, nat_lt, nat_le, Option, Some, Ok}
 use Rattle.std.proofs.lemmas.Bool.{false≢true, and_parts, leb-true}
 use Rattle.std.proofs.lemmas.Bool.Decides.{nat_tests}
 use Rattle.redn_words.specs.declared.types.Region.{Region}
@@ -19,11 +19,7 @@ use Rattle.redn_segment.specs.Sites.{space_of, start_of, is_table, inside}
 use Rattle.redn_segment.specs.Footprints.{local_by, remote_by, holds_of, both_sides}
 use Rattle.redn_segment.specs.Homes.{Home, room_of}
 use Rattle.redn_segment.specs.Orders.{Follows}
-
--- the place of an allowed access in its region
-guard : {A E : Type 0} (b : Bool) (d : E) (x : Result A E) (y : A) → cond b (Err d) x ≡ Ok y → (b ≡ false) × (x ≡ Ok y)
-guard true d x y e = absurd (cc)
-guard false d x y e = (refl, e)
+use Rattle.redn_words.proofs.Footprints.{guard}
 
 abbrev spot_in : Region → ℕ → Spot
 spot_in g off = record { at = g.base + off; kind = g.kind }
@@ -44,10 +40,7 @@ access_spot regions domain key off len need g s found e =
 module _ (home : Space → Home) where
   -- a side inside its site lies in its space
   pub inside_space : (s : Site) (byte len : ℕ) → is_table s ≡ false → 0 < len → inside s byte len ≡ true → (start_of s + byte) + len ≤ room_of home (space_of s)
-  inside_space (site.Cell c) byte len t l h = let parts = and_parts (nat_le (byte + len) 8) true h in let e = leb-true (byte + len) 8 parts.0 in omega arith
   inside_space (site.ReplyWord i) byte len t l h = let parts = and_parts (nat_le (byte + len) (64 - 8 * i)) true h in let e = leb-true (byte + len) (64 - 8 * i) parts.0 in omega arith
-  inside_space site.Key byte len t l h = let parts = and_parts (nat_le (byte + len) 8) true h in let e = leb-true (byte + len) 8 parts.0 in omega arith
-  inside_space (site.Scratch i) byte len t l h = let parts = and_parts (nat_le (byte + len) 8) true h in let e = leb-true (byte + len) 8 parts.0 in omega arith
   inside_space (site.Descriptor r) byte len t l h = let parts = and_parts (nat_le (byte + len) 16) true h in let e = leb-true (byte + len) 16 parts.0 in omega arith
   inside_space (site.Field f) byte len t l h =
       let parts = and_parts (nat_le (byte + len) f.len) (nat_le (f.byte + f.len) 64) h in
@@ -55,6 +48,7 @@ module _ (home : Space → Home) where
       let k = leb-true (f.byte + f.len) 64 parts.1 in
       omega arith
   inside_space (site.Table n o) byte len t l h = absurd (false≢true (sym t))
+  inside_space _ byte len t l h = let parts = and_parts (nat_le (byte + len) 8) true h in let e = leb-true (byte + len) 8 parts.0 in omega arith
 
 abbrev pub side_at : Site → ℕ → ℕ → Bool → Side
 side_at x byte len w = record { site = x; byte = byte; len = len; writes = w }

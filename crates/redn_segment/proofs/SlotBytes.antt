@@ -5,13 +5,14 @@ use Rattle.std.proofs.lemmas.Bool.{false≢true, false_from_ne_true, and_parts, 
 use Rattle.std.proofs.lemmas.List.{take-take}
 use Rattle.redn_words.specs.declared.types.Obs.{Obs}
 use Rattle.redn_words.specs.declared.types.Opcode.{Opcode}
-use Rattle.redn_words.specs.declared.types.Opcode.TheVariants.{Noop, Write, Read, Cas, Add, Send, Wait, Enable, Undefined}
+use Rattle.redn_words.specs.declared.types.Opcode.TheVariants.{Noop, Write, Read, Cas, Add, Send}
 use Rattle.redn_words.specs.Words.{bytes_at, with_bytes_at, word, spelled}
 use Rattle.redn_words.specs.Requests.{opcode_named}
 use Rattle.redn_words.specs.Landings.{change}
 use Rattle.redn_words.proofs.Numbers.{number_same, length-spelled}
 use Rattle.redn_words.proofs.Places.{length-with_bytes_at, bytes_at-same}
-use Rattle.redn_words.proofs.Bytes.{covers as in_change, byte_put}
+use Rattle.redn_words.proofs.Bytes.{byte_put}
+use Rattle.redn_words.specs.Bytes.{covers as in_change}
 use Rattle.redn_segment.specs.declared.types.SlotRef.{SlotRef}
 use Rattle.redn_segment.specs.declared.types.Site.{Site}
 use Rattle.redn_segment.specs.declared.types.Site.TheVariants as site
@@ -41,11 +42,7 @@ field_room (site.Field f) byte len q e h =
     let b = leb-true (f.byte + f.len) 64 parts.1 in
     omega arith
 field_room (site.Cell c) byte len q e h = absurd (cc)
-field_room (site.ReplyWord i) byte len q e h = absurd (cc)
-field_room site.Key byte len q e h = absurd (cc)
-field_room (site.Scratch i) byte len q e h = absurd (cc)
-field_room (site.Descriptor r) byte len q e h = absurd (cc)
-field_room (site.Table n o) byte len q e h = absurd (cc)
+field_room _ byte len q e h = absurd (cc)
 
 module _ (e : Draft) where
   -- a written side has as many bytes as its draft may write there
@@ -68,9 +65,7 @@ module _ (e : Draft) where
   local_written Cas a h w = as_written a e.local e.local_byte 8 true h
   local_written Add a h w = as_written a e.local e.local_byte 8 true h
   local_written Send a h w = absurd (unwritten a e.local e.local_byte e.length h w)
-  local_written Wait a h w = absurd (cc)
-  local_written Enable a h w = absurd (cc)
-  local_written (Undefined n) a h w = absurd (cc)
+  local_written _ a h w = absurd (cc)
 
   remote_written : (op : Opcode) (a : Side) → remote_by e op ≡ Some a → a.writes ≡ true → AsWritten a e.remote e.remote_byte (writes_remote e op)
   remote_written Noop a h w = as_written a e.remote e.remote_byte e.length true h
@@ -78,10 +73,7 @@ module _ (e : Draft) where
   remote_written Read a h w = absurd (unwritten a e.remote e.remote_byte e.length h w)
   remote_written Cas a h w = as_written a e.remote e.remote_byte 8 true h
   remote_written Add a h w = as_written a e.remote e.remote_byte 8 true h
-  remote_written Send a h w = absurd (cc)
-  remote_written Wait a h w = absurd (cc)
-  remote_written Enable a h w = absurd (cc)
-  remote_written (Undefined n) a h w = absurd (cc)
+  remote_written _ a h w = absurd (cc)
 
   covered : (at len i : ℕ) → at ≤ i → i < at + len → covers at len i ≡ true
   covered at len i low high = and_from (nat_le at i) (nat_lt i (at + len)) (le-leb at i low) (lt-ltb i (at + len) high)

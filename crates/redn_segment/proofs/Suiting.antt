@@ -4,11 +4,11 @@ use Rattle.std.specs.Prelude.{nat_le}
 use Rattle.std.specs.List.{list_all, count_by}
 use Rattle.std.proofs.lemmas.List.Sums.{sum_by-cons}
 use Rattle.std.proofs.lemmas.List.{length-map}
-use Rattle.std.proofs.lemmas.Bool.{false≢true, and_parts, or_cases, leb-true, eq-eqb, false_from_ne_true}
+use Rattle.std.proofs.lemmas.Bool.{false≢true, and_parts, or_cases, leb-true, false_from_ne_true}
 use Rattle.redn_words.specs.declared.types.Need.{Need}
 use Rattle.redn_words.specs.declared.types.Need.TheVariants.{Any}
 use Rattle.redn_words.specs.declared.types.Opcode.{Opcode}
-use Rattle.redn_words.specs.declared.types.Opcode.TheVariants.{Noop, Write, Read, Cas, Add, Send, Wait, Enable, Undefined}
+use Rattle.redn_words.specs.declared.types.Opcode.TheVariants.{Noop, Read, Send}
 use Rattle.redn_words.specs.Landings.{local_need, remote_need}
 use Rattle.redn_segment.specs.declared.types.SlotRef.{SlotRef}
 use Rattle.redn_segment.specs.declared.types.Site.{Site}
@@ -35,6 +35,7 @@ use Rattle.redn_segment.proofs.TellingMoved.{turns_moved}
 use Rattle.redn_segment.proofs.Telling.{is_noop, noop_is}
 use Rattle.redn_segment.proofs.Growing.{with_more}
 use Rattle.redn_segment.proofs.Appending.{IsTemplate}
+use Rattle.redn_segment.proofs.SlotBytes.{same_self as same_itself}
 
 abbrev is_any : Need → Bool
 is_any Any = true
@@ -151,12 +152,6 @@ count_none q test none (e ∷ es) h =
     let rest = count_none q test none es parts.1 in
     sum_by-cons (λ (f : Draft). one_if (turns q f)) e es ∙ rw (here, rest) refl
 
-same_itself : (q : SlotRef) → same_space (space.Slot q) (space.Slot q) ≡ true
-same_itself q =
-    let rings = eq-eqb q.ring q.ring refl in
-    let slots = eq-eqb q.slot q.slot refl in
-    rw (rings, slots) refl
-
 no_other : (q : SlotRef) (e : Draft) → turns q e ≡ true → (f : Draft) → not (both_turn e f) ≡ true → turns q f ≡ false
 no_other q e t f h =
     false_from_ne_true (turns q f) (λ u.
@@ -232,13 +227,7 @@ module _ (ring first : ℕ) where
   shows_moved : (d : Draft) (op : Opcode) → may_show_by (renamed at d) op ≡ may_show_by d op
   shows_moved d Send = refl
   shows_moved d Read = λ i. shown_moved d.remote i || variable_moved d.local i
-  shows_moved d Noop = shown_moved d.remote
-  shows_moved d Write = shown_moved d.remote
-  shows_moved d Cas = shown_moved d.remote
-  shows_moved d Add = shown_moved d.remote
-  shows_moved d Wait = shown_moved d.remote
-  shows_moved d Enable = shown_moved d.remote
-  shows_moved d (Undefined n) = shown_moved d.remote
+  shows_moved d _ = shown_moved d.remote
 
   granted_moved : (written : List ℕ) (d : Draft) (op : Opcode) → granted written (renamed at d) op ≡ granted written d op
   granted_moved written d op =

@@ -5,7 +5,7 @@ use Rattle.std.specs.List.{list_all, list_any}
 use Rattle.std.proofs.lemmas.Bool.{false≢true, and_parts, and_from, or_left, or_right, or_cases, leb-true, ltb-true, eqb-true}
 use Rattle.redn_words.specs.declared.types.Obs.{Obs}
 use Rattle.redn_words.specs.declared.types.Opcode.{Opcode}
-use Rattle.redn_words.specs.declared.types.Opcode.TheVariants.{Noop, Write, Read, Cas, Add, Send, Wait, Enable, Undefined}
+use Rattle.redn_words.specs.declared.types.Opcode.TheVariants.{Noop, Write, Cas, Undefined}
 use Rattle.redn_words.specs.Words.{bytes_at, word, spelled}
 use Rattle.redn_kernel.specs.declared.types.Cell.TheVariants.{Num}
 use Rattle.redn_segment.specs.declared.types.SlotRef.{SlotRef}
@@ -155,8 +155,7 @@ went_first (Went vs before) go us shown h = rest (go vs) refl h
     rest (Went ws more) e k = let same : vs ++ ws ≡ us = cc in (vs, ws, before, more, refl, e, sym same)
     rest (Faults ws more) e k = absurd (cc)
     rest Bad e k = absurd (cc)
-went_first (Faults vs before) go us shown h = absurd (cc)
-went_first Bad go us shown h = absurd (cc)
+went_first _ go us shown h = absurd (cc)
 
 module _ (all : List Draft) (first : SlotRef) (chain : View) where
   -- what is known of a slot when some drafts have run
@@ -439,15 +438,8 @@ module _ (all : List Draft) (first : SlotRef) (chain : View) where
         (segment_may ds done (place_of done) s here parts.0, λ us shown goes. subst (λ (q : SlotRef). HaveOpcodes all chain q rest (placed s us)) (sym at) (tell rest (done ++ ds) (placed s us) (whole ∙ sym (append_assoc done ds (drafts_of rest))) (run_segment ds done (drafts_of rest) s us shown whole inv parts.0 goes) (subst (λ (q : SlotRef). segments_told all (done ++ ds) q rest ≡ true) at parts.1)))
 
 known_is : (op : Opcode) → is_known op ≡ true → IsKnown op
-known_is Noop h = tt
-known_is Write h = tt
-known_is Read h = tt
-known_is Cas h = tt
-known_is Add h = tt
-known_is Send h = tt
-known_is Wait h = tt
-known_is Enable h = tt
 known_is (Undefined n) h = absurd (false≢true h)
+known_is _ h = tt
 
 module _ (all : List Draft) (s : Bytes) where
   untouched : (q : SlotRef) (i : ℕ) (es : List Draft) → ((e : Draft) → spared all q e ≡ true → writes_at (space.Slot q) i e ≡ false) → list_all (spared all q) es ≡ true → writes_slot es q i ≡ false

@@ -8,7 +8,7 @@ use Rattle.redn_segment.specs.declared.types.Space.{Space}
 use Rattle.redn_segment.specs.declared.types.Space.TheVariants as space
 use Rattle.redn_segment.specs.declared.types.Draft.{Draft}
 use Rattle.redn_segment.specs.Sites.{same_space, next_slot}
-use Rattle.redn_segment.specs.Plain.{Bytes, View, Put, placed, Outcome, Went, Faults, Bad, opcode_in, remote_space, runs}
+use Rattle.redn_segment.specs.Plain.{Bytes, View, Put, placed, Outcome, Went, opcode_in, remote_space, runs}
 use Rattle.redn_segment.specs.Primed.{Primed, IsWhole, HasRoom}
 use Rattle.redn_segment.specs.Building.{drafts_of}
 use Rattle.redn_segment.specs.Drafts.{slot_from}
@@ -46,8 +46,7 @@ module _ (ring first : ℕ) where
 
   went_back : (o : Outcome) (us : List Put) (shown : List Obs) → renamed_outcome at o ≡ Went us shown → (vs : List Put) × (o ≡ Went vs shown) × (map (renamed_put at) vs ≡ us)
   went_back (Went vs events) us shown e = let a : map (renamed_put at) vs ≡ us = cc in let b : events ≡ shown = cc in (vs, ap (λ (l : List Obs). Went vs l) b, a)
-  went_back (Faults vs events) us shown e = absurd (cc)
-  went_back Bad us shown e = absurd (cc)
+  went_back _ us shown e = absurd (cc)
 
   have_moved : (all : List Draft) (segments : List (List Draft)) (q : SlotRef) (chain : View) (s : Bytes) → HaveOpcodes all (pulled_view at chain) q segments (pulled at s) → HaveOpcodes (map (renamed at) all) chain (at q) (map (map (renamed at)) segments) s
   have_moved all [] q chain s h = tt

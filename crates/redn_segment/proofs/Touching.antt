@@ -12,7 +12,8 @@ use Rattle.redn_words.specs.declared.types.Opcode.TheVariants.{Noop, Write, Read
 use Rattle.redn_words.specs.Requests.{decoded, opcode_of}
 use Rattle.redn_words.specs.Access.{access, region_of}
 use Rattle.redn_words.specs.Landings.{Place, landing, local_side, remote_side}
-use Rattle.redn_words.proofs.Footprints.{footprint, written_by, place_at, by_landing}
+use Rattle.redn_words.proofs.Footprints.{by_landing}
+use Rattle.redn_words.specs.Footprints.{footprint, written_by, place_at}
 use Rattle.redn_words.specs.Ranges.{holds, within}
 use Rattle.redn_words.proofs.Ranges.{holds_bounds}
 use Rattle.redn_segment.specs.declared.types.Side.{Side}
@@ -56,6 +57,17 @@ module _ (regions : List Region) (o : Origin) (r : Request) (memory : List ℕ) 
         add = λ l d a b h. rw b (or_left (holds (record { at = d.at; len = 8 }) p) false h);
         send = λ l a h. rw a (or_left (holds (record { at = l.at; len = r.length }) p) false h);
       }
+
+-- a side that is no table lies in its space
+pub plain_room : (home : Space → Home) (d : Draft) → both_sides ends_inside d ≡ true → (a : Side) (n : ℕ) → IsSide d a → n ≤ a.len → is_table a.site ≡ false → 0 < n → from a + n ≤ room_of home (space_of a.site)
+plain_room home d fits a n its short t l =
+    let test : (is_table a.site || inside a.site a.byte a.len) ≡ true = side_test d ends_inside a fits its in
+    let ends : inside a.site a.byte a.len ≡ true = subst (λ (b : Bool). (b || inside a.site a.byte a.len) ≡ true) t test in
+    let room = inside_space home a.site a.byte a.len t (omega arith) ends in
+    omega arith
+
+pub one_place : (s : Spot) (n p : ℕ) → within (place_at (Ok s) n) p ≡ true → holds (record { at = s.at; len = n }) p ≡ true
+one_place s n p h = elim (or_cases (holds (record { at = s.at; len = n }) p) false h) [ inl e ↦ e | inr e ↦ absurd (false≢true e) ]
 
 module _ (home : Space → Home) where
   -- a byte of memory lies in a side; of a table's side it is known only that it lies in the table
@@ -102,14 +114,9 @@ module _ (home : Space → Home) where
         false≢true (ap not (sym both) ∙ free)
 
   -- a table fills its region
-  table_fills : (q : Space) → is_table_space q ≡ true → IsTold q (home q).offset → ((home q).offset ≡ 0) × (room_of home q ≡ (home q).region.len)
+  pub table_fills : (q : Space) → is_table_space q ≡ true → IsTold q (home q).offset → ((home q).offset ≡ 0) × (room_of home q ≡ (home q).region.len)
   table_fills (space.Table n) e told = (told, refl)
-  table_fills (space.Cell c) e told = absurd (false≢true e)
-  table_fills space.Reply e told = absurd (false≢true e)
-  table_fills space.Key e told = absurd (false≢true e)
-  table_fills (space.Scratch i) e told = absurd (false≢true e)
-  table_fills (space.Descriptor i) e told = absurd (false≢true e)
-  table_fills (space.Slot q) e told = absurd (false≢true e)
+  table_fills _ e told = absurd (false≢true e)
 
   module _ (mine : Space → Bool) (regions : List Region) (domain size : ℕ) (d : Draft) (slot : List ℕ) (set : IsPlaced home mine regions domain size d slot) (fits : both_sides ends_inside d ≡ true) where
     -- a byte of a side of the draft
@@ -120,19 +127,8 @@ module _ (home : Space → Home) where
       pub writes : w ≡ true → side.writes ≡ true
       pub bytes : In side p
 
-    -- a side that is no table lies in its space
-    plain_room : (a : Side) (n : ℕ) → IsSide d a → n ≤ a.len → is_table a.site ≡ false → 0 < n → from a + n ≤ room_of home (space_of a.site)
-    plain_room a n its short t l =
-        let test : (is_table a.site || inside a.site a.byte a.len) ≡ true = side_test d ends_inside a fits its in
-        let ends : inside a.site a.byte a.len ≡ true = subst (λ (b : Bool). (b || inside a.site a.byte a.len) ≡ true) t test in
-        let room = inside_space home a.site a.byte a.len t (omega arith) ends in
-        omega arith
-
     abbrev r : Request
     r = decoded slot
-
-    one_place : (s : Spot) (n p : ℕ) → within (place_at (Ok s) n) p ≡ true → holds (record { at = s.at; len = n }) p ≡ true
-    one_place s n p h = elim (or_cases (holds (record { at = s.at; len = n }) p) false h) [ inl e ↦ e | inr e ↦ absurd (false≢true e) ]
 
     -- a byte of the place of an access that begins where a side does
     access_in_side : (a : Side) (key off at n : ℕ) (need : Need) (w : Bool) (p : ℕ) → IsSide d a → mine (space_of a.site) ≡ true → (w ≡ true → a.writes ≡ true) → n ≤ a.len → IsHome home regions domain size (space_of a.site) → key ≡ (home (space_of a.site)).region.key → off ≡ (home (space_of a.site)).offset + at → (is_table a.site ≡ false → at ≡ from a) → within (place_at (access regions domain key off n need) n) p ≡ true → InSide w p
@@ -156,7 +152,7 @@ module _ (home : Space → Home) where
                   is = omega arith;
                   room = elim (is_table a.site) as (λ t. is_table a.site ≡ t → p - base_of home (space_of a.site) < room_of home (space_of a.site)) [
                     | true ↦ λ t. let full = table_fills (space_of a.site) (sym (table_space a.site) ∙ t) its_home.told in omega (arith, full.0, full.1)
-                    | false ↦ λ t. let e = start t in let room = plain_room a n its short t (omega arith) in omega arith
+                    | false ↦ λ t. let e = start t in let room = plain_room home d fits a n its short t (omega arith) in omega arith
                   ] refl;
                   bounds = λ t. let e = start t in (omega arith, omega arith);
                 };

@@ -64,4 +64,5 @@ module _ (home : Space → Home) where
   -- these spaces lie apart, and inside a memory of this size
   pub record LieApart (mine : Space → Bool) (size : ℕ) : Type 0 where
     pub inside : (p : Space) → mine p ≡ true → base_of p + room_of p ≤ size
-    pub apart : (p q : Space) → mine p ≡ true → mine q ≡ true → same_space p q ≡ false → (base_of p + room_of p ≤ base_of q) ⊎ (base_of q + room_of q ≤ base_of p)
+    pub apart : (p q : Space) → mine p ≡ true → mine q ≡ true → same_space p q ≡ false
+        → (base_of p + room_of p ≤ base_of q) ⊎ (base_of q + room_of q ≤ base_of p)

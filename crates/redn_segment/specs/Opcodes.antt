@@ -43,9 +43,11 @@ SegmentMayHave all at (d ∷ ds) s = MayHave all at d (opcode_in (s (space.Slot 
 abbrev pub HaveOpcodes : List Draft → View → SlotRef → List (List Draft) → Bytes → Type 0
 HaveOpcodes all chain at [] s = Unit {0}
 HaveOpcodes all chain at (ds ∷ rest) s =
-    SegmentMayHave all at ds s × ((us : List Put) (shown : List Obs) → runs chain at ds s ≡ Went us shown → HaveOpcodes all chain (slot_behind at (length ds)) rest (placed s us))
+    SegmentMayHave all at ds s × ((us : List Put) (shown : List Obs) → runs chain at ds s ≡ Went us shown
+    → HaveOpcodes all chain (slot_behind at (length ds)) rest (placed s us))
 
 -- from every state in which the slots are primed
 abbrev pub TellOpcodes : SlotRef → List (List Draft) → Type 0
 TellOpcodes at segments =
-    (chain : View) → SeesBytes chain → (s : Bytes) → IsWhole s → HasRoom s → Primed (drafts_of segments) at (drafts_of segments) s → HaveOpcodes (drafts_of segments) chain at segments s
+    (chain : View) → SeesBytes chain → (s : Bytes) → IsWhole s → HasRoom s → Primed (drafts_of segments) at (drafts_of segments) s
+    → HaveOpcodes (drafts_of segments) chain at segments s

@@ -52,7 +52,8 @@ module _ (home : Space → Home) (mine : Space → Bool) (regions : List Region)
     abbrev pub LandAlike : List ℕ → List ℕ → List ℕ → Type 0
     LandAlike start memory [] = Unit {0}
     LandAlike start memory (k ∷ ks) =
-        (slot_now memory k ≡ slot_now start k) × (landing_now memory k ≡ landing_now start k) × LandAlike start (changed memory (landing_now memory k).writes) ks
+        (slot_now memory k ≡ slot_now start k) × (landing_now memory k ≡ landing_now start k)
+        × LandAlike start (changed memory (landing_now memory k).writes) ks
 
     -- drafts stand in the slots of a segment, and all spaces that they name lie apart
     pub record ArePlaced (ds : List Draft) (memory : List ℕ) : Type 0 where
@@ -64,9 +65,11 @@ module _ (home : Space → Home) (mine : Space → Bool) (regions : List Region)
     -- the order doesn't matter: each landing is the same, and so is what they leave
     abbrev pub OrderIsFree : List Draft → List ℕ → Type 0
     OrderIsFree ds memory =
-        (order : List ℕ) → IsPermutation (range_with_len 0 (length ds)) order → LandAlike memory memory order × (landed memory order ≡ landed memory (range_with_len 0 (length ds)))
+        (order : List ℕ) → IsPermutation (range_with_len 0 (length ds)) order
+        → LandAlike memory memory order × (landed memory order ≡ landed memory (range_with_len 0 (length ds)))
 
 -- wherever these drafts are placed so from this slot on, they land in any order
 abbrev pub LandInAnyOrder : List Draft → SlotRef → Type 0
 LandInAnyOrder ds first =
-    (home : Space → Home) (mine : Space → Bool) (regions : List Region) (domain queue index : ℕ) (memory : List ℕ) → ArePlaced home mine regions domain queue index first ds memory → OrderIsFree home mine regions domain queue index first ds memory
+    (home : Space → Home) (mine : Space → Bool) (regions : List Region) (domain queue index : ℕ) (memory : List ℕ)
+    → ArePlaced home mine regions domain queue index first ds memory → OrderIsFree home mine regions domain queue index first ds memory

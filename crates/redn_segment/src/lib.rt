@@ -1,4 +1,7 @@
-//! Drafts of work requests, whose places are still names, and rings of them.
+//! Drafts of work requests, whose places are still names, and rings of them. A draft gets its place
+//! only where its ring is laid out, so what is proved of a template holds wherever it is appended.
+//! The laws: two templates, one after the other, are one that does both, with all counts, events and
+//! rights. Other numbers for slots, of which no two are one, change no plain run.
 #![tactic(auto)]
 
 mod builder;

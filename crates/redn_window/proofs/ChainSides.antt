@@ -1,21 +1,18 @@
 -- What leaves a chain as it is, and how its first window opens.
-use Rattle.std.proofs.Common.{◌≡◌, ◌≢◌, ℕ, ◌+◌, ◌≤◌, ◌==◌, inl, inr, true, false, List, [], ◌∷◌, Some, length, refl, sym, ap, subst, ◌∙◌, arith}
+use Rattle.std.proofs.Common.{◌≡◌, ◌≢◌, ℕ, ◌+◌, ◌==◌, inl, inr, true, false, List, [], Some, length, refl, sym, ap, subst, ◌∙◌, arith}
 use Rattle.std.specs.Prelude.{slice_get}
-use Rattle.std.proofs.lemmas.Bool.{cases_eq, false≢true, true≢false, eqb-true, and_parts}
+use Rattle.std.proofs.lemmas.Bool.{cases_eq, false≢true, eqb-true, and_parts}
 use Rattle.redn_words.specs.declared.types.Region.{Region}
 use Rattle.redn_words.specs.declared.types.QueueRow.{QueueRow}
 use Rattle.redn_words.specs.declared.types.Action.{Action}
-use Rattle.redn_words.specs.declared.types.Action.TheVariants.{Deliver}
 use Rattle.redn_words.specs.States.{Queue, State}
-use Rattle.redn_words.specs.Landings.{change}
-use Rattle.redn_words.specs.Steps.{after, with_queue_at, raised, enabled_in, acts_on}
-use Rattle.redn_words.specs.Laws.{row_of, Delivers}
-use Rattle.redn_words.proofs.Others.{row_may_raise, set_other, enabled_elsewhere, regions_stay}
-use Rattle.redn_words.proofs.Bytes.{byte, hits}
+use Rattle.redn_words.specs.Steps.{after, raised, enabled_in, acts_on}
+use Rattle.redn_words.specs.Laws.{row_of}
+use Rattle.redn_words.proofs.Others.{enabled_elsewhere, regions_stay}
+use Rattle.redn_words.specs.Others.{row_may_raise}
 use Rattle.redn_words.specs.Access.{EndsBy}
 use Rattle.redn_words.specs.Ranges.{domain_holds}
 use Rattle.redn_words.proofs.Domains.{byte_outside, length_stays, domains_stay}
-use Rattle.redn_words.proofs.Deliveries.{delivered_is, length-delivered, byte-delivered}
 use Rattle.redn_window.specs.Windows.{Opening, slots_of, enable_of}
 use Rattle.redn_window.specs.Scripts.{Script, IsScript, RestsAt, Moment, window_at, ChainAt, opened, SameChain}
 use Rattle.redn_window.proofs.Marks.{landed_past}
@@ -58,26 +55,6 @@ module _ (p : Script) (script : IsScript p) where
             let own = ring_there n r in
             let domain : own.0.row.domain ≡ w.row.domain = ap (λ (y : QueueRow). y.domain) own.2 ∙ domain_of w.row.domain (p.row n) (script.managed z.point z.memory n r) in
             domains_stay s a q n v own.0 its there own.1 (λ e. other (sym e ∙ domain)) ∙ sym own.1
-
-    -- a message whose place has no private byte
-    pub delivery_same : (c : ℕ) (d : Delivers s c) → d.place.base + length d.bytes ≤ length s.memory → ((b : ℕ) → w.ours b ≡ true → hits (change d.place.base d.bytes ∷ []) b ≡ false) → Same (after s (Deliver c))
-    delivery_same c d fits spared =
-        record {
-          queues = λ q r. ap (λ (t : State). slice_get t.queues q) (delivered_is s c d);
-          regions = regions_stay s (Deliver c);
-          size = length-delivered s c d fits;
-          bytes = λ b ours. byte-delivered s c d fits b (spared b ours);
-        }
-
-    -- a turn of another queue of its own domain, as of its entry queue
-    pub other_queue_same : (a : Action) (q : ℕ) (v : Queue) → after s a ≡ with_queue_at s q v → p.ring q ≡ false → Same (after s a)
-    other_queue_same a q v is no_ring =
-        record {
-          queues = λ n r. ap (λ (t : State). slice_get t.queues n) is ∙ set_other s.queues q n v (λ e. true≢false (sym r ∙ ap p.ring e ∙ no_ring));
-          regions = regions_stay s a;
-          size = ap (λ (t : State). length t.memory) is;
-          bytes = λ b ours. ap (λ (t : State). byte t.memory b) is;
-        }
 
   -- an ENABLE of another queue opens the first window, while all rings are at rest
   module _ (s : State) (x : p.Point) (ready : p.Ready x s.memory) (rests : (q : ℕ) → p.ring q ≡ true → RestsAt p s x q) where

@@ -7,7 +7,8 @@ use Rattle.redn_words.specs.declared.types.Action.{Action}
 use Rattle.redn_words.specs.States.{Queue, State}
 use Rattle.redn_words.specs.Steps.{possible, after, acts_on, raised}
 use Rattle.redn_words.specs.Laws.{row_of, row_at}
-use Rattle.redn_words.proofs.Others.{row_may_raise, set_here, set_other, enabled_elsewhere}
+use Rattle.redn_words.proofs.Others.{set_here, set_other, enabled_elsewhere}
+use Rattle.redn_words.specs.Others.{row_may_raise}
 use Rattle.redn_window.specs.Windows.{Opening, slots_of, landing_on, enable_of}
 use Rattle.redn_window.specs.Stages.{Orderly, Gated, Opened}
 use Rattle.redn_window.specs.Moves.{Quiet, Telling, Closing, Moves, Silent, Tells, Faults, Closes, GoesOn}

@@ -1,10 +1,10 @@
 -- A window's beginning and end.
 use Rattle.std.proofs.Common.{◌≡◌, ◌≢◌, ℕ, zero, suc, ◌+◌, ◌*◌, ◌<◌, ◌≤◌, true, false, cond, ◌==◌, List, [], length, refl, sym, ap, subst, ◌∙◌, arith}
 use Rattle.std.proofs.lemmas.Bool.{false≢true, ne_eqb}
-use Rattle.redn_words.specs.Words.{bytes_at}
 use Rattle.redn_words.specs.States.{Copies, Queue, State}
 use Rattle.redn_words.specs.Landings.{Landing, Change}
-use Rattle.redn_words.proofs.Bytes.{byte, hits, over, length-changed, byte-changed, same_range}
+use Rattle.redn_words.proofs.Bytes.{length-changed, byte-changed, same_range}
+use Rattle.redn_words.specs.Bytes.{byte, hits, over}
 use Rattle.redn_words.specs.Ranges.{Fits, holds}
 use Rattle.redn_words.proofs.Footprints.{landing_same}
 use Rattle.redn_words.proofs.Ranges.{bounds_hold}
@@ -82,11 +82,6 @@ all_landed_ends w ok memory event last p ours = last.bytes p ours ∙ sym (byte-
 pub ends : (w : Opening) (ok : Orderly w) (s : State) (t : Progress) (event : List Change) (h : Stage w s t event) → bodies_of w ≤ t.done → (p : ℕ) → w.ours p ≡ true → byte s.memory p ≡ byte (in_order w event (bodies_of w)) p
 ends w ok s t event h all p ours =
     all_landed_ends w ok s.memory event (marked w ok s.memory (landed_in t) event h.standing (λ k. true) (λ j l. sym (landed_before t.done t.marks j (omega arith)))) p ours
-
--- and so is every private range
-pub range_ends : (w : Opening) (ok : Orderly w) (s : State) (t : Progress) (event : List Change) (h : Stage w s t event) → bodies_of w ≤ t.done → (at len : ℕ) → ((p : ℕ) → at ≤ p → p < at + len → w.ours p ≡ true) → bytes_at s.memory at len ≡ bytes_at (in_order w event (bodies_of w)) at len
-range_ends w ok s t event h all at len ours =
-    same_range s.memory (in_order w event (bodies_of w)) at len (h.standing.size ∙ sym (length-in_order w ok event h.standing.fits (bodies_of w))) (λ p low high. ends w ok s t event h all p (ours p low high))
 
 -- a byte that no body may write ends as it began, and one that a single body may write as that one leaves it
 module _ (w : Opening) (ok : Orderly w) (memory : List ℕ) (event : List Change) (last : Standing w memory (λ k. true) event) (p : ℕ) (ours : w.ours p ≡ true) where

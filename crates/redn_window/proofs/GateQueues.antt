@@ -14,7 +14,8 @@ use Rattle.redn_words.specs.States.{Queue, State, slot_of}
 use Rattle.redn_words.specs.Steps.{class_of, acts_on, possible, after, shown, with_queue_at, fetched, past_head, enabled_in, may_start, counter_of, may_raise, flying_in}
 use Rattle.redn_words.proofs.Actions as action
 use Rattle.redn_words.proofs.Others.{set_here, enabled_elsewhere}
-use Rattle.redn_words.proofs.Missing.{missing, missing_insert, missing_insert_new, missing_remove}
+use Rattle.redn_words.proofs.Missing.{missing_insert, missing_insert_new, missing_remove}
+use Rattle.redn_words.specs.Missing.{missing}
 use Rattle.redn_words.proofs.Copies.{get_insert, get_remove}
 use Rattle.redn_window.specs.Moves.{cost, AtRest, GoesOn}
 use Rattle.redn_window.specs.Gateways.{Gateway, gate_copy, gate_of, OrderlyGates, GateQueue, GateStage, gate_budget, MayPass, GateFetched, GateWaited, GateEnabled, GateMoves, Fetches, Waits, Enables}

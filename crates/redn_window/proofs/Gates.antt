@@ -15,7 +15,8 @@ use Rattle.redn_words.specs.Landings.{Change}
 use Rattle.redn_words.specs.Steps.{class_of, flown, past_head, enabled_in, may_start, counter_of, may_raise}
 use Rattle.redn_words.proofs.Actions as action
 use Rattle.redn_words.specs.Laws.{row_at}
-use Rattle.redn_words.proofs.Others.{row_may_raise, may_raise_row}
+use Rattle.redn_words.proofs.Others.{may_raise_row}
+use Rattle.redn_words.specs.Others.{row_may_raise}
 use Rattle.redn_window.specs.Windows.{Opening, Window, bodies_of, slots_of, copy_of, request_of, signals, wait_of, enable_of, landed}
 use Rattle.redn_window.specs.Stages.{Orderly, Gated, Progress, landed_in, Stage}
 use Rattle.redn_window.specs.Moves.{marks_due, Quiet, Closing}
@@ -24,7 +25,8 @@ use Rattle.redn_window.proofs.Windows.{all_signals}
 use Rattle.redn_window.proofs.Stages.{marked}
 use Rattle.redn_window.proofs.Turns.{marks_due_push, turns, slot_is, window_flown, window_passed}
 use Rattle.redn_window.proofs.Rests.{window_rests}
-use Rattle.redn_words.proofs.Missing.{missing, missing_remove}
+use Rattle.redn_words.proofs.Missing.{missing_remove}
+use Rattle.redn_words.specs.Missing.{missing}
 
 no_marks : (marks : List Bool) → length marks ≡ 0 → marks ≡ []
 no_marks [] e = refl

@@ -11,8 +11,10 @@ use Rattle.redn_words.specs.States.{Queue, State}
 use Rattle.redn_words.specs.Landings.{Landing, Change, changed, landing}
 use Rattle.redn_words.specs.Steps.{after, shown, flying_in, landed_at, landing_at, land_leaves, with_landed}
 use Rattle.redn_words.proofs.Actions as action
-use Rattle.redn_words.proofs.Others.{row_may_raise, rows_stay, regions_stay, set_here, set_other}
-use Rattle.redn_words.proofs.Bytes.{byte, hits, over, over_missed, length-changed, byte-changed, same_range}
+use Rattle.redn_words.proofs.Others.{rows_stay, regions_stay, set_here, set_other}
+use Rattle.redn_words.specs.Others.{row_may_raise}
+use Rattle.redn_words.proofs.Bytes.{over_missed, length-changed, byte-changed, same_range}
+use Rattle.redn_words.specs.Bytes.{byte, hits, over}
 use Rattle.redn_words.specs.Ranges.{Fits, holds}
 use Rattle.redn_words.proofs.Footprints.{landing_same, refused_writes}
 use Rattle.redn_window.specs.Windows.{Opening, Window, Held, bodies_of, copy_of, request_of, origin_of, landing_on, planned, may_write, flight, enable_of, landed}

@@ -14,7 +14,6 @@ pub mod Openings
 pub mod Chains
 pub mod ChainSides
 pub mod Placed
-pub mod EventRanges
 pub mod Raised
 pub mod GateQueues
 pub mod Sound

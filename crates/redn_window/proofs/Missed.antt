@@ -1,14 +1,11 @@
 -- From an index on at most as many of a queue's slots are still to be fetched as there are.
-use Rattle.std.proofs.Common.{◌≡◌, ℕ, zero, suc, ◌+◌, ◌≤◌, Bool, true, false, refl, arith}
-use Rattle.std.specs.Prelude.{nat_le, is_none, ◌&&◌, if◌then◌else◌}
+use Rattle.std.proofs.Common.{◌≡◌, ℕ, zero, suc, ◌+◌, ◌≤◌, false, refl, arith}
+use Rattle.std.specs.Prelude.{nat_le, is_none, ◌&&◌}
 use Rattle.std.proofs.lemmas.Bool.Decides.{nat_tests}
 use Rattle.std.specs.FinMap.{get}
 use Rattle.redn_words.specs.States.{Copies}
-use Rattle.redn_words.proofs.Missing.{missing}
-
-small : (b : Bool) → (if b then 1 else 0) ≤ 1
-small true = omega arith
-small false = omega arith
+use Rattle.redn_words.proofs.Missing.{small}
+use Rattle.redn_words.specs.Missing.{missing}
 
 none_below : (head k : ℕ) (held : Copies) → k ≤ head → missing head held k ≡ 0
 none_below head zero held l = refl

@@ -1,5 +1,5 @@
 -- The window lemma: what each action makes of a state while a window is open.
-use Rattle.std.proofs.Common.{◌≡◌, ◌≢◌, ℕ, ◌+◌, ◌<◌, ◌≤◌, ◌⊎◌, inl, inr, Bool, true, false, List, [], ◌∷◌, Option, Some, None, length, refl, sym, ap, subst, ◌∙◌, arith}
+use Rattle.std.proofs.Common.{◌≡◌, ℕ, ◌+◌, ◌<◌, ◌≤◌, ◌⊎◌, inl, inr, Bool, true, false, List, [], ◌∷◌, Option, Some, None, length, refl, sym, ap, subst, ◌∙◌, arith}
 use Rattle.std.specs.Prelude.{slice_get}
 use Rattle.std.proofs.lemmas.Bool.{cases_Bool, cases_eq, cases_lt, le-leb}
 use Rattle.std.specs.FinMap.{get}
@@ -10,11 +10,10 @@ use Rattle.redn_words.specs.declared.types.Action.TheVariants.{Deliver, Fetch, S
 use Rattle.redn_words.specs.Requests.{decoded}
 use Rattle.redn_words.specs.States.{Queue, State}
 use Rattle.redn_words.specs.Landings.{Change}
-use Rattle.redn_words.specs.Steps.{class_of, possible, after, may_start, flying_in, acts_on}
+use Rattle.redn_words.specs.Steps.{class_of, possible, may_start, flying_in, acts_on}
 use Rattle.redn_words.proofs.Actions as action
-use Rattle.redn_words.proofs.Others.{row_may_raise, rows_stay, regions_stay, unlifted}
-use Rattle.redn_words.proofs.Bytes.{byte}
-use Rattle.redn_window.specs.Windows.{Opening, bodies_of, slots_of, request_of, landing_on, flight, flights_from, signals, enable_of}
+use Rattle.redn_words.specs.Others.{row_may_raise}
+use Rattle.redn_window.specs.Windows.{Opening, bodies_of, slots_of, request_of, landing_on, flight, flights_from, signals}
 use Rattle.redn_window.specs.Stages.{Orderly, Gated, Progress, Stage}
 use Rattle.redn_window.specs.Moves.{Moves, Silent, Tells, Faults, Closes, GoesOn, SameHere}
 use Rattle.redn_window.proofs.Windows.{Flying, flying, oldest_flies}
@@ -99,23 +98,6 @@ module _ (w : Opening) (ok : Orderly w) (s : State) (t : Progress) (event : List
           reached = h.standing.reached;
         };
         target = λ two. ap (row_may_raise w.row.domain) (e.target two) ∙ h.target two;
-      }
-
-  -- an action of another queue, or a delivery, that raises no limit of this ring and changes no private byte
-  pub record IsForeign (a : Action) : Type 0 where
-    pub other : acts_on a ≢ Some w.queue
-    pub limit : (v : Queue) → slice_get (after s a).queues w.queue ≡ Some v → v.limit ≡ u.limit
-    pub size : length (after s a).memory ≡ length s.memory
-    pub bytes : (p : ℕ) → w.ours p ≡ true → byte (after s a).memory p ≡ byte s.memory p
-
-  pub foreign_stays : (a : Action) → IsForeign a → Stage w (after s a) t event
-  foreign_stays a f =
-      same_stage (after s a) record {
-        queue = unlifted s a w.queue u h.there f.other f.limit ∙ sym h.there;
-        regions = regions_stay s a;
-        target = λ two. rows_stay s a (enable_of w).first;
-        size = f.size;
-        bytes = f.bytes;
       }
 
   abbrev MayGoOn : Type 0

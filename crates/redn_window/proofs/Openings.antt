@@ -6,7 +6,8 @@ use Rattle.redn_words.specs.States.{Queue, State}
 use Rattle.redn_words.specs.Landings.{Change}
 use Rattle.redn_words.specs.Steps.{after, raised, enabled_in}
 use Rattle.redn_words.specs.Laws.{row_at}
-use Rattle.redn_words.proofs.Others.{row_may_raise, rows_stay, enabled_there, set_here, set_other}
+use Rattle.redn_words.proofs.Others.{rows_stay, enabled_there, set_here, set_other}
+use Rattle.redn_words.specs.Others.{row_may_raise}
 use Rattle.redn_window.specs.Windows.{Opening, bodies_of, slots_of, signals, enable_of}
 use Rattle.redn_window.specs.Stages.{Progress, Stage, Opened}
 use Rattle.redn_window.specs.Moves.{AtRest, Closing}

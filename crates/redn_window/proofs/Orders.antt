@@ -3,7 +3,8 @@ use Rattle.std.proofs.Common.{◌≡◌, ◌≢◌, ℕ, zero, suc, ◌<◌, inl
 use Rattle.std.specs.Prelude.{if◌then◌else◌}
 use Rattle.std.proofs.lemmas.Bool.{cases_Bool, cases_eq}
 use Rattle.redn_words.specs.Landings.{Change}
-use Rattle.redn_words.proofs.Bytes.{hits, over, over_missed}
+use Rattle.redn_words.proofs.Bytes.{over_missed}
+use Rattle.redn_words.specs.Bytes.{hits, over}
 use Rattle.redn_window.specs.Stages.{value}
 
 pub over_commute : (a b : List Change) (p v : ℕ) → (hits a p ≡ true → hits b p ≡ false) → over a p (over b p v) ≡ over b p (over a p v)

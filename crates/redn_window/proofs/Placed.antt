@@ -6,7 +6,7 @@ use Rattle.redn_words.specs.declared.types.Obs.TheVariants as shows
 use Rattle.redn_words.specs.Words.{bytes_at}
 use Rattle.redn_words.specs.Landings.{Place}
 use Rattle.redn_words.specs.Access.{EndsBy}
-use Rattle.redn_words.proofs.Footprints.{footprint}
+use Rattle.redn_words.specs.Footprints.{footprint}
 use Rattle.redn_words.specs.Ranges.{within, all_apart, all_inside}
 use Rattle.redn_words.proofs.Ranges.{within_apart, within_inside, bounds_hold, one_within}
 use Rattle.redn_window.specs.Windows.{Opening, bodies_of, slots_of, copy_of, request_of, planned, slot_at}

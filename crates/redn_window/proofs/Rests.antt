@@ -1,5 +1,5 @@
 -- A queue at rest: after its window, and until an ENABLE opens the next.
-use Rattle.std.proofs.Common.{◌≡◌, ℕ, ◌+◌, ◌≤◌, Bool, true, List, [], ◌∷◌, Option, Some, None, length, refl, sym, ap, subst, ◌∙◌, arith}
+use Rattle.std.proofs.Common.{◌≡◌, ℕ, ◌+◌, Bool, true, List, [], ◌∷◌, Option, Some, None, length, refl, sym, ap, subst, ◌∙◌, arith}
 use Rattle.std.specs.Prelude.{slice_get}
 use Rattle.std.specs.FinMap.{get}
 use Rattle.redn_words.specs.declared.types.QueueRow.{QueueRow}
@@ -9,9 +9,8 @@ use Rattle.redn_words.specs.States.{Queue, State}
 use Rattle.redn_words.specs.Steps.{possible, flying_in, acts_on}
 use Rattle.redn_words.proofs.Actions as action
 use Rattle.redn_window.specs.Windows.{Opening, Window, bodies_of, slots_of, flights_from, signals}
-use Rattle.redn_window.specs.Stages.{Orderly}
 use Rattle.redn_window.specs.Moves.{AtRest}
-use Rattle.redn_window.proofs.Windows.{signals_past, all_signals}
+use Rattle.redn_window.proofs.Windows.{signals_past}
 
 pub rest_like : {r z : QueueRow} {a b c d : ℕ} {u : Queue} → AtRest r a c u → z ≡ r → b ≡ a → d ≡ c → AtRest z b d u
 rest_like h row at counter =
@@ -84,14 +83,3 @@ module _ (w : Opening) where
       by_held : (i : ℕ) (o : Option (List ℕ)) → get u.held i ≡ o → get u.held i ≡ None
       by_held i None e = e
       by_held i (Some c) e = let its = h.held i c e in let low = its.low in let high = its.high in absurd (omega arith)
-
-  -- a counter that has all signals of the bodies tells that they have completed: what another queue that waits for it learns
-  pub counter_tells : Orderly w → (u : Queue) (done : ℕ) (marks : List Bool) → Window w u done marks → w.counter + signals w (bodies_of w) ≤ u.counter → bodies_of w ≤ done
-  counter_tells ok u done marks h come = let counted = h.counted in all_signals w ok.last done (omega arith)
-
--- so a window without gates is over once its counter has all signals: a control queue that has waited for it may open the next
-pub counter_rests : (w : Opening) (ok : Orderly w) (u : Queue) (done : ℕ) (marks : List Bool) → Window w u done marks → length w.gates ≡ 0 → w.counter + signals w (bodies_of w) ≤ u.counter → AtRest w.row (w.from + slots_of w) (w.counter + signals w (bodies_of w)) u
-counter_rests w ok u done marks h none come =
-    let all = counter_tells w ok u done marks h come in
-    let inside = h.inside in
-    window_rests w u done marks h (omega arith)

@@ -1,20 +1,22 @@
 -- What stands in memory while a window is open.
-use Rattle.std.proofs.Common.{◌≡◌, ◌≢◌, ℕ, ◌<◌, Bool, true, false, cond, ◌==◌, List, length, refl, sym, ap, subst, ◌∙◌}
-use Rattle.std.specs.Prelude.{slice_get, if◌then◌else◌}
-use Rattle.std.proofs.lemmas.Bool.{false≢true, eqb-true, eq-eqb, false_from_ne_true}
+use Rattle.std.proofs.Common.{◌≡◌, ℕ, ◌<◌, Bool, true, false, cond, ◌==◌, List, length, refl, sym, ap, subst, ◌∙◌}
+use Rattle.std.specs.Prelude.{slice_get}
+use Rattle.std.proofs.lemmas.Bool.{false≢true, eqb-true, false_from_ne_true}
 use Rattle.redn_words.specs.declared.types.Action.{Action}
 use Rattle.redn_words.specs.Words.{bytes_at}
 use Rattle.redn_words.specs.States.{State}
 use Rattle.redn_words.specs.Landings.{Change}
 use Rattle.redn_words.specs.Steps.{after, with_queue_at}
-use Rattle.redn_words.proofs.Others.{row_may_raise, rows_stay, regions_stay, set_here}
-use Rattle.redn_words.proofs.Bytes.{byte, hits, over, same_range}
+use Rattle.redn_words.proofs.Others.{rows_stay, regions_stay, set_here}
+use Rattle.redn_words.specs.Others.{row_may_raise}
+use Rattle.redn_words.proofs.Bytes.{same_range}
+use Rattle.redn_words.specs.Bytes.{byte, hits}
 use Rattle.redn_words.specs.Ranges.{Fits}
 use Rattle.redn_words.specs.Access.{EndsBy}
 use Rattle.redn_words.proofs.Footprints.{landing_fits, landing_hits}
 use Rattle.redn_window.specs.Windows.{Opening, Window, bodies_of, slots_of, copy_of, request_of, origin_of, landing_on, planned, may_write, slot_at, enable_of}
 use Rattle.redn_window.specs.Stages.{Agrees, Orderly, effect, Standing, Progress, landed_in, Stage}
-use Rattle.redn_window.proofs.Orders.{value_same, value_missed, value_only}
+use Rattle.redn_window.proofs.Orders.{value_same, value_missed}
 
 module _ (w : Opening) (ok : Orderly w) where
   -- what a body writes, on a memory of this size
@@ -42,13 +44,6 @@ module _ (w : Opening) (ok : Orderly w) where
     pub byte_stands : (p : ℕ) → w.ours p ≡ true → ((j : ℕ) → j < bodies_of w → marks j ≡ true → may_write w j p ≡ false) → byte memory p ≡ byte w.memory p
     byte_stands p ours spared =
         standing.bytes p ours ∙ value_missed marks (effect w event) (bodies_of w) p (byte w.memory p) (λ j l m. effect_misses event standing.reached j p (spared j l m))
-
-    -- one that the event's body alone may write is as at the opening until that one lands
-    pub event_byte : (p : ℕ) → w.ours p ≡ true → w.event < bodies_of w → ((j : ℕ) → j < bodies_of w → j ≢ w.event → may_write w j p ≡ false) → byte memory p ≡ (if marks w.event then over event p (byte w.memory p) else byte w.memory p)
-    event_byte p ours inside spared =
-        let its : (w.event == w.event) ≡ true = eq-eqb w.event w.event refl in
-        let effects : effect w event w.event ≡ event = rw its refl in
-        standing.bytes p ours ∙ value_only marks (effect w event) w.event (bodies_of w) p (byte w.memory p) inside (λ j l ne m. effect_misses event standing.reached j p (spared j l ne)) ∙ ap (λ (c : List Change). if marks w.event then over c p (byte w.memory p) else byte w.memory p) effects
 
     -- so the slots of the window stand as they were fetched
     pub slot_stands : (k : ℕ) → k < slots_of w → bytes_at memory (slot_at w k) 64 ≡ copy_of w k

@@ -15,7 +15,7 @@ use Rattle.redn_words.specs.Steps.{possible, after, shown, with_queue_at, fetche
 use Rattle.redn_words.proofs.Actions as action
 use Rattle.redn_words.specs.Laws.{Fetches}
 use Rattle.redn_words.proofs.Others.{set_other}
-use Rattle.redn_words.proofs.Bytes.{byte}
+use Rattle.redn_words.specs.Bytes.{byte}
 use Rattle.redn_window.specs.Windows.{Opening, Window, Held, bodies_of, slots_of, copy_of, flight, flights_from, landed}
 use Rattle.redn_window.specs.Stages.{Orderly, Progress, landed_in, Stage}
 use Rattle.redn_window.specs.Moves.{marks_due, budget, budget_of, cost, Quiet}

@@ -15,10 +15,6 @@ module _ (w : Opening) where
   flights_push k n [] e = let at : k ≡ n = omega arith in ap (λ (m : ℕ). flight w m false ∷ []) at
   flights_push k n (b ∷ marks) e = ap (λ (l : List Flight). flight w k b ∷ l) (flights_push (k + 1) n marks (omega arith))
 
-  pub length-flights : (k : ℕ) (marks : List Bool) → length (flights_from w k marks) ≡ length marks
-  length-flights k [] = refl
-  length-flights k (b ∷ marks) = ap suc (length-flights (k + 1) marks)
-
   -- where the request of an index is in flight and hasn't landed
   pub record Flying (k : ℕ) (marks : List Bool) (i : ℕ) : Type 0 where
     pub nth : ℕ

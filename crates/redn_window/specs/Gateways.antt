@@ -9,7 +9,7 @@ use Rattle.redn_words.specs.declared.types.Obs.TheVariants as shows
 use Rattle.redn_words.specs.Requests.{decoded}
 use Rattle.redn_words.specs.States.{Copies, Queue, State, slot_of}
 use Rattle.redn_words.specs.Steps.{after, shown, class_of, with_queue_at, past_head, enabled_in, counter_of, may_raise}
-use Rattle.redn_words.proofs.Missing.{missing}
+use Rattle.redn_words.specs.Missing.{missing}
 use Rattle.redn_window.specs.Moves.{cost}
 
 pub record Gateway : Type 0 where

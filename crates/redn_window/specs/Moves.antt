@@ -8,8 +8,8 @@ use Rattle.redn_words.specs.States.{Copies, Queue, State}
 use Rattle.redn_words.specs.Landings.{Change, changed}
 use Rattle.redn_words.specs.Steps.{possible, after, shown, is_useful, acts_on, with_queue_at, stopped, enabled_in}
 use Rattle.redn_words.specs.Laws.{row_at}
-use Rattle.redn_words.proofs.Bytes.{byte}
-use Rattle.redn_words.proofs.Missing.{missing}
+use Rattle.redn_words.specs.Bytes.{byte}
+use Rattle.redn_words.specs.Missing.{missing}
 use Rattle.redn_window.specs.Windows.{Opening, bodies_of, slots_of, signals, landing_on, enable_of}
 use Rattle.redn_window.specs.Stages.{Gated, Standing, Agrees, Progress, landed_in, Stage}
 

@@ -7,8 +7,8 @@ use Rattle.redn_words.specs.declared.types.Obs.TheVariants as shows
 use Rattle.redn_words.specs.States.{Queue, State}
 use Rattle.redn_words.specs.Landings.{Change}
 use Rattle.redn_words.specs.Steps.{after, shown}
-use Rattle.redn_words.proofs.Others.{row_may_raise}
-use Rattle.redn_words.proofs.Bytes.{byte}
+use Rattle.redn_words.specs.Others.{row_may_raise}
+use Rattle.redn_words.specs.Bytes.{byte}
 use Rattle.redn_window.specs.Windows.{Opening, bodies_of, slots_of, signals, landing_on, enable_of}
 use Rattle.redn_window.specs.Stages.{Orderly, Gated, Agrees, Standing, Progress, landed_in, Stage}
 use Rattle.redn_window.specs.Moves.{AtRest, budget_of, cost, Quiet, Telling, Faulting}
@@ -121,6 +121,7 @@ module _ (p : Script) where
     -- what a possible action of the chain's rings does
     pub data ChainMoves : Type 0 where
       Stays : (quiet : Quiet w s z.progress z.event a) → ChainAt (after s a) (record z { progress = quiet.now }) → ChainMoves
-      Shows : (telling : Telling w s z.progress z.event a) → ChainAt (after s a) (record z { progress = telling.now; event = (landing_on w s.memory w.event).writes }) → ChainMoves
+      Shows : (telling : Telling w s z.progress z.event a)
+          → ChainAt (after s a) (record z { progress = telling.now; event = (landing_on w s.memory w.event).writes }) → ChainMoves
       Ends : Faulting w s z.progress z.event a → ChainMoves
       Goes_on : Going → ChainMoves

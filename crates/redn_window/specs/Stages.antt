@@ -11,8 +11,8 @@ use Rattle.redn_words.specs.Landings.{Change, changed}
 use Rattle.redn_words.specs.Ranges.{holds, Fits}
 use Rattle.redn_words.specs.Steps.{class_of}
 use Rattle.redn_words.specs.Laws.{row_at}
-use Rattle.redn_words.proofs.Others.{row_may_raise}
-use Rattle.redn_words.proofs.Bytes.{byte, hits, over}
+use Rattle.redn_words.specs.Others.{row_may_raise}
+use Rattle.redn_words.specs.Bytes.{byte, hits, over}
 use Rattle.redn_window.specs.Windows.{Opening, Window, bodies_of, slots_of, copy_of, request_of, planned, may_write, slot_at, signals, wait_of, enable_of, landed}
 
 -- a body that shows nothing: it reads and writes private bytes, and reads none that another body may write

@@ -11,7 +11,7 @@ use Rattle.redn_words.specs.Requests.{decoded}
 use Rattle.redn_words.specs.States.{Queue}
 use Rattle.redn_words.specs.Landings.{Landing, landing}
 use Rattle.redn_words.specs.Ranges.{within}
-use Rattle.redn_words.proofs.Footprints.{footprint}
+use Rattle.redn_words.specs.Footprints.{footprint}
 
 -- a window as it was opened. Places in it count from 0: first the bodies, then the gates
 pub record Opening : Type 0 where

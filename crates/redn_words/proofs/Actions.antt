@@ -31,10 +31,9 @@ none_some (Some x) e = absurd (false≢true e)
 -- a start that is refused stops its queue
 pub stops : (s : State) (q : ℕ) (u : Queue) (copy : List ℕ) (r : Request) (c : Class) → refused_start s u.row.domain r c ≡ true → started s q u copy r c ≡ with_queue_at s q (stopped (past_head u))
 unfolding started
-stops s q u copy r ask.Flies e = absurd (false≢true e)
-stops s q u copy r ask.Undefined e = absurd (false≢true e)
 stops s q u copy r ask.Passes e = ap (λ b. with_queue_at s q (cond b (past_head u) (stopped (past_head u)))) (none_some (counter_of s u.row.domain r.first) e)
 stops s q u copy r ask.Raises e = let may : may_raise u.row.domain (slice_get s.queues r.first) ≡ false = not-true (may_raise u.row.domain (slice_get s.queues r.first)) e in rw may refl
+stops s q u copy r _ e = absurd (false≢true e)
 
 module _ (s : State) (q : ℕ) (u : Queue) (there : slice_get s.queues q ≡ Some u) where
   -- what being possible says
@@ -184,12 +183,3 @@ module _ (s : State) (q : ℕ) (u : Queue) (there : slice_get s.queues q ≡ Som
 pub has_room : (s : State) (u : Queue) (r : Request) → may_start s u r ask.Flies ≡ true → length u.flights < u.row.slots
 unfolding may_start
 has_room s u r may = ltb-true (length u.flights) u.row.slots may
-
--- a fetch and a completion show nothing
-pub fetched_quietly : (s : State) (q i : ℕ) → shown s (Fetch q i) ≡ shows.Nothing
-unfolding shown
-fetched_quietly s q i = refl
-
-pub completed_quietly : (s : State) (q : ℕ) → shown s (Complete q) ≡ shows.Nothing
-unfolding shown
-completed_quietly s q = refl

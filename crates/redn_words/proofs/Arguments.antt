@@ -1,6 +1,5 @@
 -- The words of a message.
-use Rattle.std.proofs.Common.{◌≡◌, ℕ, zero, suc, ◌+◌, ◌*◌, ◌<◌, List, [], ◌∷◌, ◌++◌, length, refl, ap, ◌∙◌, add-one, arith}
-use Rattle.std.specs.Prelude.{slice_index}
+use Rattle.std.proofs.Common.{◌≡◌, ℕ, zero, suc, ◌+◌, ◌*◌, List, [], ◌∷◌, ◌++◌, length, refl, ap, ◌∙◌, add-one, arith}
 use Rattle.redn_words.specs.Words.{word}
 use Rattle.redn_words.specs.Arguments.{argument_words}
 
@@ -17,8 +16,3 @@ words_more bytes n =
 pub length-argument_words : (bytes : List ℕ) (i n : ℕ) → length (argument_words bytes i n) ≡ n
 length-argument_words bytes i zero = refl
 length-argument_words bytes i (suc n) = ap suc (length-argument_words bytes (i + 1) n)
-
-pub argument_word : (bytes : List ℕ) (i n k j : ℕ) → k < n → j ≡ i + k → slice_index (argument_words bytes i n) k ≡ word bytes (8 * j)
-argument_word bytes i zero k j h e = absurd (omega arith)
-argument_word bytes i (suc n) zero j h e = ap (λ (m : ℕ). word bytes (8 * m)) (omega (arith, e))
-argument_word bytes i (suc n) (suc k) j h e = argument_word bytes (i + 1) n k j (omega arith) (omega arith)

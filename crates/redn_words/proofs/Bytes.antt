@@ -1,7 +1,6 @@
 -- Memory byte by byte: what some changes make of each byte, and that changes to bytes apart commute.
-use Rattle.std.proofs.Common.{◌≡◌, ℕ, ◌+◌, ◌-◌, ◌<◌, ◌≤◌, inl, inr, Bool, false, ◌&&◌, List, [], ◌∷◌, ◌++◌, length, take, drop, get_or, refl, sym, ap, subst, ◌∙◌, arith, length-take, length-drop}
-use Rattle.std.specs.Prelude.{nat_le, nat_lt, if◌then◌else◌}
-use Rattle.std.specs.List.{list_any}
+use Rattle.std.proofs.Common.{◌≡◌, ℕ, ◌+◌, ◌-◌, ◌<◌, ◌≤◌, inl, inr, false, List, [], ◌∷◌, ◌++◌, length, take, drop, get_or, refl, sym, ap, subst, ◌∙◌, arith, length-take, length-drop}
+use Rattle.std.specs.Prelude.{nat_le, nat_lt}
 use Rattle.std.proofs.lemmas.Bool.{cases_Bool, or_parts}
 use Rattle.std.proofs.lemmas.Bool.Decides.{nat_tests}
 use Rattle.std.proofs.lemmas.List.{ext_get_or, get_or-take, get_or-drop, get_or-append_right, get_or_append_left, length-take-le}
@@ -9,24 +8,7 @@ use Rattle.redn_words.specs.Words.{bytes_at, with_bytes_at}
 use Rattle.redn_words.specs.Landings.{Change, changed}
 use Rattle.redn_words.specs.Ranges.{Fits}
 use Rattle.redn_words.proofs.Places.{length-with_bytes_at}
-
-abbrev pub byte : List ℕ → ℕ → ℕ
-byte memory p = get_or memory p 0
-
-abbrev pub covers : Change → ℕ → Bool
-covers c p = nat_le c.at p && nat_lt p (c.at + length c.bytes)
-
--- whether some of the changes writes a byte
-abbrev pub hits : List Change → ℕ → Bool
-hits changes p = list_any (λ c. covers c p) changes
-
--- what a change makes of a byte
-abbrev pub put : Change → ℕ → ℕ → ℕ
-put c p before = if covers c p then get_or c.bytes (p - c.at) 0 else before
-
-abbrev pub over : List Change → ℕ → ℕ → ℕ
-over [] p before = before
-over (c ∷ rest) p before = over rest p (put c p before)
+use Rattle.redn_words.specs.Bytes.{byte, covers, hits, put, over}
 
 -- a byte that no change hits stays
 pub over_missed : (changes : List Change) (p before : ℕ) → hits changes p ≡ false → over changes p before ≡ before
@@ -76,10 +58,3 @@ same_range m n at len e same =
     ext_get_or 0 (bytes_at m at len) (bytes_at n at len) (omega (arith, length-take len (drop at m), length-take len (drop at n), length-drop at m, length-drop at n)) (λ i l.
     let short : i < len = omega (arith, l, length-take len (drop at m)) in
     get_or-take len (drop at m) i 0 short ∙ get_or-drop at m i 0 ∙ same (at + i) (omega arith) (omega arith) ∙ sym (get_or-drop at n i 0) ∙ sym (get_or-take len (drop at n) i 0 short))
-
--- and tells them
-pub byte_of_range : (m n : List ℕ) (at len p : ℕ) → bytes_at m at len ≡ bytes_at n at len → at ≤ p → p < at + len → byte m p ≡ byte n p
-byte_of_range m n at len p e low high =
-    let there : at + (p - at) ≡ p = omega arith in
-    let read : (l : List ℕ) → get_or (bytes_at l at len) (p - at) 0 ≡ byte l p = λ l. get_or-take len (drop at l) (p - at) 0 (omega arith) ∙ get_or-drop at l (p - at) 0 ∙ ap (byte l) there in
-    sym (read m) ∙ ap (λ l. get_or l (p - at) 0) e ∙ read n

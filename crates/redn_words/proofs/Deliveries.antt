@@ -3,13 +3,13 @@ use Rattle.std.proofs.Common.{◌≡◌, ℕ, ◌+◌, ◌≤◌, true, false, L
 use Rattle.std.specs.Prelude.{slice_get, slice_set}
 use Rattle.std.proofs.lemmas.Bool.{false≢true}
 use Rattle.redn_words.specs.declared.types.Receive.{Receive}
-use Rattle.redn_words.specs.declared.types.Obs.TheVariants as shows
 use Rattle.redn_words.specs.declared.types.Action.TheVariants.{Deliver}
 use Rattle.redn_words.specs.Words.{with_bytes_at}
 use Rattle.redn_words.specs.States.{Mail, Absent, Pending, Delivered, Chain, State}
 use Rattle.redn_words.specs.Landings.{Change, change}
-use Rattle.redn_words.specs.Steps.{possible, after, shown, deliver_possible, is_pending}
-use Rattle.redn_words.proofs.Bytes.{byte, hits, over_missed, byte-changed, length-changed}
+use Rattle.redn_words.specs.Steps.{possible, after, deliver_possible, is_pending}
+use Rattle.redn_words.proofs.Bytes.{over_missed, byte-changed, length-changed}
+use Rattle.redn_words.specs.Bytes.{byte, hits}
 use Rattle.redn_words.specs.Laws.{Delivers}
 
 module _ (s : State) (c : ℕ) where
@@ -26,10 +26,6 @@ module _ (s : State) (c : ℕ) where
       by_place None m e f t = absurd (false≢true t)
       by_place (Some place) None e f t = absurd (false≢true t)
       by_place (Some place) (Some chain) e f t = by_mail place chain chain.mail e f refl t
-
-  pub delivered_quietly : shown s (Deliver c) ≡ shows.Nothing
-  unfolding shown
-  delivered_quietly = refl
 
   module _ (d : Delivers s c) where
     -- and when it is

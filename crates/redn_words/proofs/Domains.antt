@@ -11,7 +11,7 @@ use Rattle.redn_words.specs.declared.types.Spot.{Spot}
 use Rattle.redn_words.specs.declared.types.Need.{Need}
 use Rattle.redn_words.specs.declared.types.Refusal.{Refusal}
 use Rattle.redn_words.specs.declared.types.Opcode.{Opcode}
-use Rattle.redn_words.specs.declared.types.Opcode.TheVariants.{Noop, Write, Read, Cas, Add, Send, Wait, Enable, Undefined}
+use Rattle.redn_words.specs.declared.types.Opcode.TheVariants.{Write, Read, Cas, Add}
 use Rattle.redn_words.specs.declared.types.Action.{Action}
 use Rattle.redn_words.specs.declared.types.Action.TheVariants.{Deliver, Fetch, Start, Land, Complete}
 use Rattle.redn_words.specs.Requests.{decoded, opcode_of}
@@ -21,8 +21,10 @@ use Rattle.redn_words.specs.States.{Queue, State}
 use Rattle.redn_words.specs.Landings.{Landing, Place, local_side, remote_side}
 use Rattle.redn_words.specs.Steps.{after, acts_on, may_raise, land_after, landing_at, flying}
 use Rattle.redn_words.proofs.Others.{keeps, set_other, enabled_elsewhere, start_after_leaves}
-use Rattle.redn_words.proofs.Bytes.{byte, hits, over_missed, byte-changed, length-changed}
-use Rattle.redn_words.proofs.Footprints.{granted, place_at, written_by, footprint, landing_fits, landing_hits}
+use Rattle.redn_words.proofs.Bytes.{over_missed, byte-changed, length-changed}
+use Rattle.redn_words.specs.Bytes.{byte, hits}
+use Rattle.redn_words.proofs.Footprints.{granted, landing_fits, landing_hits}
+use Rattle.redn_words.specs.Footprints.{place_at, written_by, footprint}
 use Rattle.redn_words.proofs.Ranges.{holds_bounds, bounds_hold}
 
 -- an allowed access lies in a region of its domain
@@ -70,11 +72,7 @@ module _ (regions : List Region) (domain p : ℕ) where
   written_holds r Read h = side_holds (local_side regions domain Read r) r.length (λ s e low high. access_holds regions domain _ _ r.length p _ s e low high) h
   written_holds r Cas h = two_hold (remote_side regions domain Cas r) (local_side regions domain Cas r) (λ s e low high. access_holds regions domain _ _ 8 p _ s e low high) (λ s e low high. access_holds regions domain _ _ 8 p _ s e low high) h
   written_holds r Add h = two_hold (remote_side regions domain Add r) (local_side regions domain Add r) (λ s e low high. access_holds regions domain _ _ 8 p _ s e low high) (λ s e low high. access_holds regions domain _ _ 8 p _ s e low high) h
-  written_holds r Noop h = absurd (false≢true h)
-  written_holds r Send h = absurd (false≢true h)
-  written_holds r Wait h = absurd (false≢true h)
-  written_holds r Enable h = absurd (false≢true h)
-  written_holds r (Undefined n) h = absurd (false≢true h)
+  written_holds r _ h = absurd (false≢true h)
 
   -- a request writes only in regions of its domain
   pub footprint_inside : (r : Request) → within (footprint regions domain r) p ≡ true → domain_holds regions domain p ≡ true

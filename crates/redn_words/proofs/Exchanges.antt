@@ -11,7 +11,8 @@ use Rattle.redn_words.specs.Access.{EndsBy}
 use Rattle.redn_words.specs.Landings.{Place, Change, changed, landing}
 use Rattle.redn_words.specs.Ranges.{within, is_apart, all_apart, range_of, ranges_of, AreApart, Fits, LieApart, AllStand}
 use Rattle.redn_words.proofs.Places.{bytes_at-same, length-with_bytes_at}
-use Rattle.redn_words.proofs.Bytes.{byte, covers, hits, over, over_missed, byte-changed, length-changed, same_range}
+use Rattle.redn_words.proofs.Bytes.{over_missed, byte-changed, length-changed, same_range}
+use Rattle.redn_words.specs.Bytes.{byte, covers, hits, over}
 use Rattle.redn_words.proofs.Ranges.{within_apart, bounds_hold, one_within}
 use Rattle.redn_words.proofs.Footprints.{landing_same, landing_fits}
 

@@ -1,5 +1,5 @@
 -- The order of the requests in flight through each change.
-use Rattle.std.proofs.Common.{◌≡◌, ℕ, zero, suc, ◌<◌, ◌≤◌, not, ◌&&◌, ◌==◌, true, false, cond, List, [], ◌∷◌, ◌++◌, length, get_or, drop, refl, ap, arith}
+use Rattle.std.proofs.Common.{◌≡◌, ℕ, zero, suc, ◌<◌, ◌≤◌, not, ◌&&◌, ◌==◌, true, false, cond, List, [], ◌∷◌, ◌++◌, length, get_or, refl, ap, arith}
 use Rattle.std.proofs.lemmas.List.Elements.{All-push}
 use Rattle.std.proofs.lemmas.List.Quantifiers.{all_pairs_push}
 use Rattle.redn_words.specs.declared.types.Flight.{Flight}
@@ -11,10 +11,6 @@ IsRising-push fs f rising below = all_pairs_push (λ (f g : Flight). f.index < g
 
 pub IsRising-rest : (f : Flight) (fs : List Flight) → IsRising (f ∷ fs) → IsRising fs
 IsRising-rest f fs rising = λ i j d lt l. rising (suc i) (suc j) d (omega arith) (omega arith)
-
-pub IsRising-drop : (fs : List Flight) → IsRising fs → IsRising (drop 1 fs)
-IsRising-drop [] rising = rising
-IsRising-drop (f ∷ fs) rising = IsRising-rest f fs rising
 
 pub AllBelow-more : (n m : ℕ) (fs : List Flight) → n ≤ m → AllBelow n fs → AllBelow m fs
 AllBelow-more n m fs le below = λ k d l. omega (arith, below k d l)

@@ -19,9 +19,10 @@ use Rattle.redn_words.specs.Requests.{opcode_of}
 use Rattle.redn_words.specs.Access.{access, access_in, region_of, is_aligned, grants, EndsBy}
 use Rattle.redn_words.specs.declared.limits.TheConstants.{GREATEST_LENGTH}
 use Rattle.redn_words.specs.Ranges.{holds, within, Fits}
-use Rattle.redn_words.specs.Landings.{Landing, Place, Change, change, done, refused, lands, landing, local_side, remote_side, two_sides, one_side, swap, sum_of, write_by, read_by, cas_by, add_by, send_by}
+use Rattle.redn_words.specs.Landings.{Landing, Change, change, done, refused, lands, landing, local_side, remote_side, two_sides, one_side, swap, sum_of, write_by, read_by, cas_by, add_by, send_by}
 use Rattle.redn_words.proofs.Numbers.{length-spelled}
-use Rattle.redn_words.proofs.Bytes.{covers, hits}
+use Rattle.redn_words.specs.Bytes.{covers, hits}
+use Rattle.redn_words.specs.Footprints.{place_at, written_by, footprint}
 
 -- memories that agree where the landing reads
 abbrev pub SameReads : Landing → List ℕ → List ℕ → Type 0
@@ -40,15 +41,12 @@ module _ (regions : List Region) (o : Origin) (r : Request) where
 
   lands_same : (m n : List ℕ) (op : Opcode) → SameReads (lands regions o m r op) m n → lands regions o m r op ≡ lands regions o n r op
   unfolding lands
-  lands_same m n Noop same = refl
   lands_same m n Write same = two_sides_same Write (local_side regions o.chain Write r) (remote_side regions o.chain Write r) _ _ m n (λ l d e. ap (write_by o r l d) e) same
   lands_same m n Read same = two_sides_same Read (local_side regions o.chain Read r) (remote_side regions o.chain Read r) _ _ m n (λ l d e. ap (read_by o r l d) e) same
   lands_same m n Cas same = two_sides_same Cas (local_side regions o.chain Cas r) (remote_side regions o.chain Cas r) _ _ m n (λ l d e. ap (cas_by o r l d) e) same
   lands_same m n Add same = two_sides_same Add (local_side regions o.chain Add r) (remote_side regions o.chain Add r) _ _ m n (λ l d e. ap (add_by o r l d) e) same
   lands_same m n Send same = one_side_same (local_side regions o.chain Send r) _ _ m n (λ l e. ap (send_by o r l) e) same
-  lands_same m n Wait same = refl
-  lands_same m n Enable same = refl
-  lands_same m n (Undefined k) same = refl
+  lands_same m n _ same = refl
 
   -- a landing depends on the request, the regions and the bytes that it reads
   pub landing_same : (m n : List ℕ) → SameReads (landing regions o m r) m n → landing regions o m r ≡ landing regions o n r
@@ -109,7 +107,7 @@ module _ (regions : List Region) (o : Origin) (r : Request) where
       }
 
 -- an allowed access lies in its region, which is of its domain
-guard : {A E : Type 0} (b : Bool) (d : E) (x : Result A E) (y : A) → cond b (Err d) x ≡ Ok y → (b ≡ false) × (x ≡ Ok y)
+pub guard : {A E : Type 0} (b : Bool) (d : E) (x : Result A E) (y : A) → cond b (Err d) x ≡ Ok y → (b ≡ false) × (x ≡ Ok y)
 guard true d x y e = absurd (cc)
 guard false d x y e = (refl, e)
 
@@ -146,21 +144,6 @@ access_ends size regions domain key off len need s h e =
       | None ↦ λ f q. absurd (cc)
       | Some r ↦ λ f q. let a = found_ends size regions key r h f in let b = (granted r domain off len need s q).high in omega arith
     ] refl e
-
-abbrev pub place_at : Result Spot Refusal → ℕ → List Place
-place_at (Err e) len = []
-place_at (Ok s) len = record { at = s.at; len = len } ∷ []
-
--- where a request writes, whatever it reads
-abbrev pub written_by : List Region → ℕ → Request → Opcode → List Place
-written_by regions domain r Write = place_at (remote_side regions domain Write r) r.length
-written_by regions domain r Read = place_at (local_side regions domain Read r) r.length
-written_by regions domain r Cas = place_at (remote_side regions domain Cas r) 8 ++ place_at (local_side regions domain Cas r) 8
-written_by regions domain r Add = place_at (remote_side regions domain Add r) 8 ++ place_at (local_side regions domain Add r) 8
-written_by regions domain r _ = []
-
-abbrev pub footprint : List Region → ℕ → Request → List Place
-footprint regions domain r = written_by regions domain r (opcode_of r)
 
 module _ (regions : List Region) (o : Origin) (r : Request) (memory : List ℕ) (ends : EndsBy (length memory) regions) where
   ends_at : (key off len : ℕ) (need : Need) (s : Spot) → access regions o.chain key off len need ≡ Ok s → s.at + len ≤ length memory

@@ -6,15 +6,7 @@ use Rattle.std.proofs.lemmas.Bool.Decides.{nat_tests}
 use Rattle.std.specs.FinMap.{get, insert, remove}
 use Rattle.redn_words.specs.States.{Copies}
 use Rattle.redn_words.proofs.Copies.{get_insert, get_remove}
-
--- 1 where an index that may be fetched isn't held
-abbrev one : ℕ → Copies → ℕ → ℕ
-one head held j = if nat_le head j && is_none (get held j) then 1 else 0
-
--- how many such indexes there are below n
-abbrev pub missing : ℕ → Copies → ℕ → ℕ
-missing head held zero = 0
-missing head held (suc n) = one head held n + missing head held n
+use Rattle.redn_words.specs.Missing.{one, missing}
 
 one_inserted : (head i j : ℕ) (held : Copies) (c : List ℕ) → eqb j i ≡ true → one head (insert held i c) j ≡ 0
 one_inserted head i j held c t = rw (get_insert, t) (none_of (nat_le head j))
@@ -70,7 +62,7 @@ pub missing_remove : (n k : ℕ) (held : Copies) → missing (n + 1) (remove hel
 missing_remove n zero held = omega arith
 missing_remove n (suc k) held = omega (arith, one_remove n k held, missing_remove n k held)
 
-small : (b : Bool) → (if b then 1 else 0) ≤ 1
+pub small : (b : Bool) → (if b then 1 else 0) ≤ 1
 small true = omega arith
 small false = omega arith
 

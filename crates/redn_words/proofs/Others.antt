@@ -1,9 +1,8 @@
 -- What an action leaves alone: the rows of all queues, the regions, and the other queues but for a limit that an ENABLE raises.
-use Rattle.std.proofs.Common.{◌≡◌, ◌≢◌, ◌+◌, ◌≤◌, ◌⊎◌, arith, ℕ, zero, suc, Bool, true, false, cond, ◌&&◌, ◌==◌, max, List, [], ◌∷◌, Option, Some, None, refl, sym, ap, subst, ◌∙◌, inl, inr}
+use Rattle.std.proofs.Common.{◌≡◌, ◌≢◌, ◌+◌, ◌≤◌, ◌⊎◌, arith, ℕ, zero, suc, Bool, true, false, cond, List, [], ◌∷◌, Option, Some, None, refl, sym, ap, subst, ◌∙◌, inl, inr}
 use Rattle.std.specs.Prelude.{slice_get, slice_set, is_some}
 use Rattle.std.specs.FinMap.{get}
 use Rattle.std.proofs.lemmas.Bool.{cases_eq, false≢true}
-use Rattle.redn_words.specs.declared.types.QueueRow.{QueueRow}
 use Rattle.redn_words.specs.declared.types.Request.{Request}
 use Rattle.redn_words.specs.declared.types.Receive.{Receive}
 use Rattle.redn_words.specs.declared.types.Flight.{Flight}
@@ -16,6 +15,7 @@ use Rattle.redn_words.specs.States.{Queue, Mail, Absent, Pending, Delivered, Cha
 use Rattle.redn_words.specs.Landings.{Landing, changed}
 use Rattle.redn_words.specs.Steps.{possible, class_of, acts_on, fetch_possible, start_possible, land_possible, complete_possible, after, with_queue, with_queue_at, deliver_after, delivered, fetched, start_after, started, past_head, flown, stopped, raised, enabled_in, raised_in, may_raise, counter_of, land_after, land_leaves, landed_at, landing_at, flying, completed}
 use Rattle.redn_words.specs.Laws.{row_of, row_at, Left, Alone, Lifted, AtMost}
+use Rattle.redn_words.specs.Others.{row_may_raise}
 
 -- a write to a list elsewhere
 pub set_other : {X : Type 0} (xs : List X) (i j : ℕ) (x : X) → j ≢ i → slice_get (slice_set xs i x) j ≡ slice_get xs j
@@ -49,11 +49,6 @@ set_row (x ∷ queues) (suc q) (suc n) u v e r = set_row queues q n u v e r
 raised_rows : (queues : List Queue) (q limit n : ℕ) (o : Option Queue) → slice_get queues q ≡ o → row_at (raised_in queues q limit o) n ≡ row_at queues n
 raised_rows queues q limit n None e = refl
 raised_rows queues q limit n (Some u) e = set_row queues q n u (raised u limit) e refl
-
--- whether a domain may raise a queue is told by its row
-abbrev pub row_may_raise : ℕ → Option QueueRow → Bool
-row_may_raise domain None = false
-row_may_raise domain (Some row) = row.managed && row.domain == domain
 
 pub may_raise_row : (domain : ℕ) (o : Option Queue) → may_raise domain o ≡ row_may_raise domain (row_of o)
 may_raise_row domain None = refl
@@ -187,17 +182,6 @@ others_stay s a n other =
   where
     apart : (q : ℕ) → acts_on a ≡ Some q → n ≢ q
     apart q on at = other (on ∙ ap Some (sym at))
-
--- a queue whose limit another queue's action leaves stays as it is
-pub unlifted : (s : State) (a : Action) (n : ℕ) (u : Queue) → slice_get s.queues n ≡ Some u → acts_on a ≢ Some n → ((v : Queue) → slice_get (after s a).queues n ≡ Some v → v.limit ≡ u.limit) → slice_get (after s a).queues n ≡ Some u
-unlifted s a n u there other kept = by_left (others_stay s a n other)
-  where
-    by_left : Left (slice_get s.queues n) (slice_get (after s a).queues n) → slice_get (after s a).queues n ≡ Some u
-    by_left (Alone same) = same ∙ there
-    by_left (Lifted v limit was now) =
-        let is : v ≡ u = cc (was, there) in
-        let same : max v.limit limit ≡ v.limit = kept (raised v limit) now ∙ ap (λ (x : Queue). x.limit) (sym is) in
-        now ∙ ap (λ (n : ℕ). Some (record v { limit = n })) same ∙ ap Some is
 
 -- what an ENABLE raises, and what it doesn't
 pub enabled_there : (queues : List Queue) (target limit : ℕ) (u : Queue) → slice_get queues target ≡ Some u → slice_get (enabled_in queues target limit) target ≡ Some (raised u limit)

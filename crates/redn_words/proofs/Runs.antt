@@ -21,16 +21,7 @@ AllPossible_parts s (a ∷ acts) more h = let rest = AllPossible_parts (after s 
 
 shown_append : (o : Obs) (xs ys : List Obs) → shown_then o (xs ++ ys) ≡ shown_then o xs ++ ys
 shown_append shows.Nothing xs ys = refl
-shown_append (shows.Set c x v) xs ys = refl
-shown_append (shows.Load c x t o v) xs ys = refl
-shown_append (shows.Look c t o v) xs ys = refl
-shown_append (shows.Store c t o v) xs ys = refl
-shown_append (shows.Reply c n ws) xs ys = refl
-shown_append (shows.Fault c t o) xs ys = refl
-shown_append (shows.Stale q i) xs ys = refl
-shown_append (shows.Undefined q i) xs ys = refl
-shown_append (shows.Refused q i) xs ys = refl
-shown_append (shows.Odd q i) xs ys = refl
+shown_append _ xs ys = refl
 
 -- what an action shows, and then the others
 pub shown_first : (o : Obs) (xs : List Obs) → shown_then o xs ≡ shown_then o [] ++ xs

@@ -1,12 +1,12 @@
 -- A request is read back from its slot, and a slot from a ring.
-use Rattle.std.proofs.Common.{◌≡◌, ℕ, zero, suc, ◌+◌, ◌*◌, ◌^◌, ◌<◌, List, [], ◌∷◌, ◌++◌, Some, length, take, drop, refl, sym, ap, ◌∙◌, arith, append_assoc, append-nil, length-append}
-use Rattle.std.specs.Prelude.{slice_get}
+use Rattle.std.proofs.Common.{◌≡◌, ℕ, ◌*◌, ◌^◌, ◌<◌, List, [], ◌∷◌, ◌++◌, length, take, refl, ap, ◌∙◌, arith, append_assoc, append-nil, length-append}
 use Rattle.std.specs.List.{flat_map}
-use Rattle.std.proofs.lemmas.List.{drop_at, take_at, drop-drop}
+use Rattle.std.proofs.lemmas.List.{drop_at, take_at}
 use Rattle.redn_words.specs.declared.types.Request.{Request}
 use Rattle.redn_words.specs.Words.{bytes_at, number, spelled}
 use Rattle.redn_words.specs.Requests.{decoded, encoded}
 use Rattle.redn_words.proofs.Numbers.{number-bytes_at, number-spelled, length-spelled}
+use Rattle.redn_words.specs.Slots.{IsNarrow}
 
 pub bytes_at_append : (a b c : List ℕ) (o n : ℕ) → length a ≡ o → length b ≡ n → bytes_at (a ++ (b ++ c)) o n ≡ b
 bytes_at_append a b c o n e f = ap (take n) (drop_at a (b ++ c) o e) ∙ take_at b c n f
@@ -15,19 +15,6 @@ bytes_at_append a b c o n e f = ap (take n) (drop_at a (b ++ c) o e) ∙ take_at
 number_at : (n x o : ℕ) (b front rest : List ℕ) → b ≡ front ++ (spelled n x ++ rest) → length front ≡ o → x < 256 ^ n → number n b o ≡ x
 number_at n x o b front rest e f h =
     number-bytes_at n b o ∙ ap (λ (l : List ℕ). number n l 0) (ap (λ (l : List ℕ). bytes_at l o n) e ∙ bytes_at_append front (spelled n x) rest o n f (length-spelled n x)) ∙ number-spelled n x h
-
--- the fields of a request fit their bytes
-pub record IsNarrow (r : Request) : Type 0 where
-  pub op : r.op < 256 ^ 2
-  pub id : r.id < 256 ^ 6
-  pub lkey : r.lkey < 256 ^ 4
-  pub rkey : r.rkey < 256 ^ 4
-  pub local : r.local < 256 ^ 8
-  pub remote : r.remote < 256 ^ 8
-  pub len : r.length < 256 ^ 8
-  pub first : r.first < 256 ^ 8
-  pub second : r.second < 256 ^ 8
-  pub flags : r.flags < 256 ^ 8
 
 pub length-encoded : (r : Request) → length (encoded r) ≡ 64
 unfolding encoded
@@ -54,19 +41,6 @@ decoded-encoded r h =
     let is_second : number 8 (encoded r) 48 ≡ r.second = number_at 8 r.second 48 (encoded r) (spelled 2 r.op ++ spelled 6 r.id ++ spelled 4 r.lkey ++ spelled 4 r.rkey ++ spelled 8 r.local ++ spelled 8 r.remote ++ spelled 8 r.length ++ spelled 8 r.first) (spelled 8 r.flags) (simp append_assoc refl) (simp (length-append, length-spelled) refl) h.second in
     let is_flags : number 8 (encoded r) 56 ≡ r.flags = number_at 8 r.flags 56 (encoded r) (spelled 2 r.op ++ spelled 6 r.id ++ spelled 4 r.lkey ++ spelled 4 r.rkey ++ spelled 8 r.local ++ spelled 8 r.remote ++ spelled 8 r.length ++ spelled 8 r.first ++ spelled 8 r.second) [] (simp (append_assoc, append-nil) refl) (simp (length-append, length-spelled) refl) h.flags in
     same_request (decoded (encoded r)) r is_op is_id is_lkey is_rkey is_local is_remote is_length is_first is_second is_flags
-
--- the slot of a request in a ring
-pub slot_at : (rs : List Request) (rest : List ℕ) (p : ℕ) (r : Request) → slice_get rs p ≡ Some r → bytes_at (flat_map encoded rs ++ rest) (64 * p) 64 ≡ encoded r
-slot_at [] rest p r e = cc
-slot_at (q ∷ rs) rest zero r e =
-    let same : q ≡ r = cc in
-    let first : bytes_at (flat_map encoded (q ∷ rs) ++ rest) 0 64 ≡ encoded q = ap (λ (l : List ℕ). bytes_at l 0 64) (append_assoc (encoded q) (flat_map encoded rs) rest) ∙ bytes_at_append [] (encoded q) (flat_map encoded rs ++ rest) 0 64 refl (length-encoded q) in
-    first ∙ ap encoded same
-slot_at (q ∷ rs) rest (suc p) r e =
-    let at : 64 * suc p ≡ 64 + 64 * p = omega arith in
-    let past : drop 64 (flat_map encoded (q ∷ rs) ++ rest) ≡ flat_map encoded rs ++ rest = ap (drop 64) (append_assoc (encoded q) (flat_map encoded rs) rest) ∙ drop_at (encoded q) (flat_map encoded rs ++ rest) 64 (length-encoded q) in
-    let here : drop (64 * suc p) (flat_map encoded (q ∷ rs) ++ rest) ≡ drop (64 * p) (flat_map encoded rs ++ rest) = ap (λ (n : ℕ). drop n (flat_map encoded (q ∷ rs) ++ rest)) (at ∙ omega arith) ∙ sym (drop-drop (64 * p) 64 (flat_map encoded (q ∷ rs) ++ rest)) ∙ ap (drop (64 * p)) past in
-    ap (take 64) here ∙ slot_at rs rest p r e
 
 pub length-ring : (rs : List Request) → length (flat_map encoded rs) ≡ 64 * length rs
 length-ring [] = refl

@@ -35,5 +35,6 @@ AllInOrder s = (q : ℕ) (queue : Queue) → slice_get s.queues q ≡ Some queue
 -- regions, and the places of messages that are to come, lie in memory
 pub record IsInside (s : State) : Type 0 where
   pub regions : EndsBy (length s.memory) s.regions
-  pub mails : (c : ℕ) (place : Receive) (chain : Chain) (bytes : List ℕ) → slice_get s.receives c ≡ Some place → slice_get s.chains c ≡ Some chain → chain.mail ≡ Pending bytes
+  pub mails : (c : ℕ) (place : Receive) (chain : Chain) (bytes : List ℕ) → slice_get s.receives c ≡ Some place → slice_get s.chains c ≡ Some chain
+      → chain.mail ≡ Pending bytes
       → place.base + length bytes ≤ length s.memory

@@ -112,13 +112,15 @@ RisesByOne = (s : State) (a : Action) (n : ℕ) → AtMost (slice_get s.queues n
 -- an action of a queue changes no queue of another domain
 abbrev pub OtherDomainsStay : Type 0
 OtherDomainsStay =
-    (s : State) (a : Action) (q n : ℕ) (mine other : Queue) → acts_on a ≡ Some q → slice_get s.queues q ≡ Some mine → slice_get s.queues n ≡ Some other → other.row.domain ≢ mine.row.domain
+    (s : State) (a : Action) (q n : ℕ) (mine other : Queue) → acts_on a ≡ Some q → slice_get s.queues q ≡ Some mine
+    → slice_get s.queues n ≡ Some other → other.row.domain ≢ mine.row.domain
     → slice_get (after s a).queues n ≡ Some other
 
 -- and no byte that no region of its domain has
 abbrev pub OtherBytesStay : Type 0
 OtherBytesStay =
-    (s : State) (a : Action) (q p : ℕ) (mine : Queue) → acts_on a ≡ Some q → slice_get s.queues q ≡ Some mine → EndsBy (length s.memory) s.regions → domain_holds s.regions mine.row.domain p ≡ false
+    (s : State) (a : Action) (q p : ℕ) (mine : Queue) → acts_on a ≡ Some q → slice_get s.queues q ≡ Some mine → EndsBy (length s.memory) s.regions
+    → domain_holds s.regions mine.row.domain p ≡ false
     → slice_index (after s a).memory p ≡ slice_index s.memory p
 
 -- changes leave each range that lies apart from them
@@ -142,12 +144,14 @@ ReadsOneRange =
 pub record Exchange (regions : List Region) (memory : List ℕ) (o p : Origin) (r t : Request) : Type 0 where
   pub second : landing regions p (changed memory (landing regions o memory r).writes) t ≡ landing regions p memory t
   pub first : landing regions o (changed memory (landing regions p memory t).writes) r ≡ landing regions o memory r
-  pub memory_same : changed (changed memory (landing regions o memory r).writes) (landing regions p memory t).writes ≡ changed (changed memory (landing regions p memory t).writes) (landing regions o memory r).writes
+  pub memory_same : changed (changed memory (landing regions o memory r).writes) (landing regions p memory t).writes
+      ≡ changed (changed memory (landing regions p memory t).writes) (landing regions o memory r).writes
 
 -- two landings that lie apart can be exchanged
 abbrev pub ApartExchange : Type 0
 ApartExchange =
-    (regions : List Region) (memory : List ℕ) (o p : Origin) (r t : Request) → EndsBy (length memory) regions → AreApart (landing regions o memory r) (landing regions p memory t)
+    (regions : List Region) (memory : List ℕ) (o p : Origin) (r t : Request) → EndsBy (length memory) regions
+    → AreApart (landing regions o memory r) (landing regions p memory t)
     → Exchange regions memory o p r t
 
 -- whatever possible actions an adapter makes from its first state on, its queues are in order

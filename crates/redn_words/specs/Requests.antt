@@ -24,7 +24,8 @@ decoded slot =
 -- the 64 bytes that spell a request
 unfoldable pub encoded : Request → List ℕ
 encoded r =
-    spelled 2 r.op ++ spelled 6 r.id ++ spelled 4 r.lkey ++ spelled 4 r.rkey ++ spelled 8 r.local ++ spelled 8 r.remote ++ spelled 8 r.length ++ spelled 8 r.first ++ spelled 8 r.second ++ spelled 8 r.flags
+    spelled 2 r.op ++ spelled 6 r.id ++ spelled 4 r.lkey ++ spelled 4 r.rkey ++ spelled 8 r.local ++ spelled 8 r.remote ++ spelled 8 r.length
+    ++ spelled 8 r.first ++ spelled 8 r.second ++ spelled 8 r.flags
 
 -- what an opcode's number names
 unfoldable pub opcode_named : ℕ → Opcode
