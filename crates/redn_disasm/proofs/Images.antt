@@ -1,5 +1,5 @@
 -- An image is known by its numbers and its memory, and so by its listing.
-use Rattle.std.proofs.Common.{◌≡◌, ℕ, ◌<◌, List, ◌++◌, length, get_or, refl, sym, ap, subst, ◌∙◌, inl, inr, arith}
+use Rattle.std.proofs.Common.{◌≡◌, ℕ, ◌<◌, ◌≤◌, List, ◌++◌, length, get_or, refl, sym, ap, subst, ◌∙◌, inl, inr, arith}
 use Rattle.std.specs.Prelude.{IfErr, IfOk, MatchResult, Ok, Err, Result}
 use Rattle.std.specs.List.{All, flat_map}
 use Rattle.std.proofs.lemmas.Bool.{cases_lt}
@@ -15,6 +15,7 @@ use Rattle.redn_disasm.specs.Assembly.{Assembles, Begun, BreaksRule, Made, Wrong
 use Rattle.redn_disasm.specs.Going.{SaysWhy}
 use Rattle.redn_disasm.specs.Listing.{IsListing}
 use Rattle.redn_disasm.proofs.OneOutcome.{one_outcome}
+use Rattle.redn_disasm.proofs.Short.{listing_short}
 use Rattle.redn_disasm.proofs.Whole.{read_back}
 
 abbrev spelled_by : Numbers → List ℕ → List ℕ
@@ -45,13 +46,19 @@ are_bytes xs h k =
 pub listed : (text : List ℕ) (i : Image) → IsListing text i → Assembles text (Made (numbers_of i) i.memory)
 listed text i l = subst (λ (t : List ℕ). Assembles t (Made (numbers_of i) i.memory)) (sym l.is) (read_back i l.obeys (are_bytes i.memory l.bytes))
 
--- what is read of a listing is its image
-pub read_alone : (text : List ℕ) (r : Result Image ListFault) (i : Image) → IfOk r (λ j. Assembles text (Made (numbers_of j) j.memory)) → IfErr r (SaysWhy text) → IsListing text i → MatchResult r (λ j. j ≡ i) (λ e. e ≡ Memory)
-read_alone text (Ok j) i h g l =
+pub listed_alone : (text : List ℕ) (i j : Image) → IsListing text i → Assembles text (Made (numbers_of j) j.memory) → j ≡ i
+listed_alone text i j l h =
     let same : Made (numbers_of j) j.memory ≡ Made (numbers_of i) i.memory = one_outcome 1 Begun (lines_of text) (Made (numbers_of j) j.memory) (Made (numbers_of i) i.memory) h (listed text i l) in
     let rows : numbers_of j ≡ numbers_of i = cc in
     let memory : j.memory ≡ i.memory = cc in
     same_image i j l.obeys rows memory
+
+pub listed_short : (text : List ℕ) (i : Image) → IsListing text i → length text ≤ 268435456
+listed_short text i l = subst (λ (t : List ℕ). length t ≤ 268435456) (sym l.is) (listing_short i l.obeys (are_bytes i.memory l.bytes))
+
+-- what is read of a listing is its image
+pub read_alone : (text : List ℕ) (r : Result Image ListFault) (i : Image) → IfOk r (λ j. Assembles text (Made (numbers_of j) j.memory)) → IfErr r (SaysWhy text) → IsListing text i → MatchResult r (λ j. j ≡ i) (λ e. e ≡ Memory)
+read_alone text (Ok j) i h g l = listed_alone text i j l h
 read_alone text (Err (Line k)) i h g l =
     let same = one_outcome 1 Begun (lines_of text) (WrongLine k) (Made (numbers_of i) i.memory) g (listed text i l) in
     absurd (cc)

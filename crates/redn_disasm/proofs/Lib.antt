@@ -20,4 +20,5 @@ pub mod Memories
 pub mod WrittenWords
 pub mod ReadBack
 pub mod Whole
+pub mod Short
 pub mod Images

@@ -8,7 +8,8 @@ use Rattle.std.proofs.lemmas.List.{ext_get_or, get_or-take, get_or-drop, get_or-
 use Rattle.redn_words.specs.declared.types.QueueRow.{QueueRow}
 use Rattle.redn_words.specs.Landings.{Change}
 use Rattle.redn_words.specs.Words.{bytes_at, spelled, with_bytes_at, word}
-use Rattle.redn_words.proofs.Bytes.{byte, byte_put, put}
+use Rattle.redn_words.proofs.Bytes.{byte_put}
+use Rattle.redn_words.specs.Bytes.{byte, put}
 use Rattle.redn_words.proofs.Digits.{AreBytes, spelled-number}
 use Rattle.redn_image.specs.Rules.{queue_numbers}
 use Rattle.redn_disasm.specs.Assembly.{Place, all_places, places_from}

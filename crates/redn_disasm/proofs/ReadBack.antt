@@ -6,7 +6,7 @@ use Rattle.std.proofs.lemmas.Bool.{cases_lt, eqb-true}
 use Rattle.byteorder.specs.Numbers.{big_from-lt}
 use Rattle.redn_words.specs.declared.types.QueueRow.{QueueRow}
 use Rattle.redn_words.specs.Words.{bytes_at, number, spelled, with_bytes_at, word}
-use Rattle.redn_words.proofs.Bytes.{byte}
+use Rattle.redn_words.specs.Bytes.{byte}
 use Rattle.redn_words.proofs.Digits.{AreBytes, spelled-number}
 use Rattle.redn_image.specs.Rules.{Numbers, queue_numbers}
 use Rattle.redn_disasm.specs.Assembly.{Ended, Filled, Leads, Made, Outcome, Place, all_places, data_formats}

@@ -49,7 +49,7 @@ each_both : {X : Type 0} (P : X → Type 0) (xs ys : List X) → Each P xs → E
 each_both P [] ys a b = b
 each_both P (x ∷ xs) ys a b = (a.0, each_both P xs ys a.1 b)
 
-rings_fit : (size k : ℕ) (rows : List QueueRow) → All (IsRing size) rows → k + length rows < 2 ^ 64 → Each (PlaceFits size) (all_places k (map queue_numbers rows))
+pub rings_fit : (size k : ℕ) (rows : List QueueRow) → All (IsRing size) rows → k + length rows < 2 ^ 64 → Each (PlaceFits size) (all_places k (map queue_numbers rows))
 rings_fit size k [] h few = tt
 rings_fit size k (q ∷ rows) h few =
     let r = h 0 q (omega arith) in
@@ -115,21 +115,21 @@ each_of : {X Y : Type 0} (P : Y → Type 0) (f : X → Y) (xs : List X) → All 
 each_of P f [] h = tt
 each_of P f (x ∷ xs) h = (h 0 (f x) (omega arith), each_of P f xs (λ k d l. h (suc k) d (omega arith)))
 
-each_all : {X : Type 0} (P : X → Type 0) (xs : List X) → All P xs → Each P xs
+pub each_all : {X : Type 0} (P : X → Type 0) (xs : List X) → All P xs → Each P xs
 each_all P [] h = tt
 each_all P (x ∷ xs) h = (h 0 x (omega arith), each_all P xs (λ k d l. h (suc k) d (omega arith)))
 
 joined_8 : (a b c d e s w n : List ℕ) → a ++ b ++ c ++ d ++ e ++ s ++ w ++ n ≡ a ++ (b ++ (c ++ (d ++ (e ++ (s ++ (w ++ n))))))
 joined_8 a b c d e s w n = simp append_assoc
 
-memory_row : (size : ℕ) → size < 2 ^ 64 → IsRow (codes "memory") memory_formats (memory_line size) (size ∷ [])
+pub memory_row : (size : ℕ) → size < 2 ^ 64 → IsRow (codes "memory") memory_formats (memory_line size) (size ∷ [])
 memory_row size few =
     (fields_text (decimal size ∷ []), append_assoc (codes "memory") (codes " " ++ decimal size) (codes "\n"), fields_are memory_formats (decimal size ∷ []) (size ∷ []) ((refl, omega arith, few), tt))
 
 first_line : IsLine (codes "redn 1\n")
 first_line = record { front = codes "redn 1"; is = refl; inside = refl }
 
-good_regions : (i : Image) → Obeys i → length i.receives ≤ 16 → length i.memory ≤ 33554432 → Each (λ r. GoodRegion (region_numbers r)) i.regions
+pub good_regions : (i : Image) → Obeys i → length i.receives ≤ 16 → length i.memory ≤ 33554432 → Each (λ r. GoodRegion (region_numbers r)) i.regions
 good_regions i e few size =
     let n = numbers_of i in
     let none = obeys_rows i e in
@@ -140,7 +140,7 @@ good_regions i e few size =
     let both = and_parts (nat_lt r.kind 5) (if r.kind == 1 then nat_lt r.table 64 else r.table == 0) (known k d low) in
     record { fits = fits k d low; kind = ltb-true r.kind 5 both.0 })
 
-good_queues : (i : Image) → Obeys i → length i.receives ≤ 16 → length i.memory ≤ 33554432 → Each (λ q. GoodQueue (queue_numbers q)) i.queues
+pub good_queues : (i : Image) → Obeys i → length i.receives ≤ 16 → length i.memory ≤ 33554432 → Each (λ q. GoodQueue (queue_numbers q)) i.queues
 good_queues i e few size =
     let n = numbers_of i in
     let none = obeys_rows i e in
@@ -175,9 +175,25 @@ even_size i e =
     let h = header_small (length n.regions) (length n.queues) (length i.receives) 0 (length i.memory) (none_before _ _ e) in
     eqb-true _ _ (and_parts (length i.memory % 8 == 0) (nat_le (length i.memory) 33554432) h.3).0
 
+-- a listing, line by line
+pub listing_parts : (i : Image) → listing_text i ≡ codes "redn 1\n" ++ (memory_line (length i.memory) ++ (flat_map (λ (r : Region). region_line (region_numbers r)) i.regions ++ (flat_from (λ (k : ℕ) (q : QueueRow). queue_line k (queue_numbers q)) 0 i.queues ++ (flat_from receive_line 0 i.receives
+    ++ (flat_map (place_line i.memory) (all_places 0 (map queue_numbers i.queues)) ++ (flat_range (λ (j : ℕ). data_text i.queues i.memory (8 * j)) 0 (length i.memory / 8) ++ codes "end\n"))))))
+unfolding listing_text
+listing_parts i =
+    let whole = i.memory in
+    let size : ℕ = length whole in
+    let C = flat_from receive_line 0 i.receives in
+    let Q = flat_from (λ (k : ℕ) (q : QueueRow). queue_line k (queue_numbers q)) 0 i.queues in
+    let R = flat_map (λ (r : Region). region_line (region_numbers r)) i.regions in
+    let S = flat_from (slots_text whole) 0 i.queues in
+    let W = flat_below (λ (k : ℕ). data_text i.queues whole (8 * k)) (size / 8) in
+    let front : List ℕ → List ℕ = λ l. codes "redn 1\n" ++ (memory_line size ++ (R ++ (Q ++ (C ++ l)))) in
+    joined_8 (codes "redn 1\n") (memory_line size) R Q C S W (codes "end\n")
+    ∙ ap (λ (l : List ℕ). front (l ++ (W ++ codes "end\n"))) (ring_places whole 0 i.queues)
+    ∙ ap (λ (l : List ℕ). front (flat_map (place_line whole) (all_places 0 (map queue_numbers i.queues)) ++ (l ++ codes "end\n"))) (range_all (λ (k : ℕ). data_text i.queues whole (8 * k)) (size / 8))
+
 -- a listing is read back as its image
 pub read_back : (i : Image) → Obeys i → AreBytes i.memory → Assembles (listing_text i) (Made (numbers_of i) i.memory)
-unfolding listing_text
 read_back i e bytes =
     let whole = i.memory in
     let n = numbers_of i in
@@ -202,11 +218,4 @@ read_back i e bytes =
     let row = memory_row size (omega arith) in
     let named = come_line out Named (GivenRows (no_rows size)) (memory_line size) (R ++ (Q ++ (C ++ T))) (row_line (codes "memory") memory_formats (memory_line size) (size ∷ []) refl row) refl (leads_size (memory_line size) size row) regions in
     let begins = come_line out Begun Named (codes "redn 1\n") (memory_line size ++ (R ++ (Q ++ (C ++ T)))) first_line refl (leads_named (codes "redn 1\n") refl) named in
-    let S = flat_from (slots_text whole) 0 i.queues in
-    let W = flat_below (λ (k : ℕ). data_text i.queues whole (8 * k)) (size / 8) in
-    let front : List ℕ → List ℕ = λ l. codes "redn 1\n" ++ (memory_line size ++ (R ++ (Q ++ (C ++ l)))) in
-    let text : listing_text i ≡ front T =
-    joined_8 (codes "redn 1\n") (memory_line size) R Q C S W (codes "end\n")
-    ∙ ap (λ (l : List ℕ). front (l ++ (W ++ codes "end\n"))) (ring_places whole 0 i.queues)
-    ∙ ap (λ (l : List ℕ). front (flat_map (place_line whole) (all_places 0 (map queue_numbers i.queues)) ++ (l ++ codes "end\n"))) (range_all (λ (k : ℕ). data_text i.queues whole (8 * k)) (size / 8)) in
-    subst (λ (l : List ℕ). ComesTo 1 Begun (lines_of l) out) (sym text) (begins.at 1)
+    subst (λ (l : List ℕ). ComesTo 1 Begun (lines_of l) out) (sym (listing_parts i)) (begins.at 1)

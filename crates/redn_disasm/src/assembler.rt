@@ -14,7 +14,7 @@ use crate::formats::MEMORY;
 use crate::holding::hold;
 use crate::lines::{is_filling, next_line};
 use crate::rows::{Rows, add_row};
-use redn_image::Image;
+use redn_image::{Image, image_of_kept};
 use redn_words::Memory;
 use std::alloc::{AllocError, Global};
 
@@ -135,12 +135,7 @@ fn fill(image: Image, text: &[u8], first: u64) -> Result<Image, ListFault>
         mut memory,
     } = image;
     match read_memory(&mut memory, &queues, text, first) {
-        Ok(()) => Ok(Image {
-            regions,
-            queues,
-            receives,
-            memory,
-        }),
+        Ok(()) => Ok(image_of_kept(regions, queues, receives, memory)),
         Err(fault) => Err(fault),
     }
 }

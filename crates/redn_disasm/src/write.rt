@@ -5,9 +5,9 @@ ghost use Rattle.std.proofs.Common.{get_or};
 ghost use Rattle.std.specs.List.{flat_map, list_any};
 ghost use Rattle.hex.specs.Hex.{encode_lower};
 ghost use Rattle.redn_words.specs.Words.{spelled};
-ghost use Rattle.redn_image.specs.Rules.{kind_number, queue_numbers, region_numbers, table_number};
+ghost use Rattle.redn_image.specs.Rules.{Obeys, kind_number, queue_numbers, region_numbers, table_number};
 ghost use Rattle.redn_disasm.specs.Fields.{kind_word, op_word, order_word};
-ghost use Rattle.redn_disasm.specs.Listing.{IsRing, data_line, data_of, data_text, field, flat_below, flat_from, lies_in, listing_text, memory_line, queue_line, receive_line, region_line, slot_line, slot_of, slots_text};
+ghost use Rattle.redn_disasm.specs.Listing.{IsListing, IsRing, data_line, data_of, data_text, field, flat_below, flat_from, lies_in, listing_text, memory_line, queue_line, receive_line, region_line, slot_line, slot_of, slots_text};
 
 use byteorder::{BigEndian, ByteOrder};
 use hex::encode_to_slice;
@@ -299,10 +299,12 @@ fn put_words(
     Ok(())
 }
 
-/// The listing of an image.
+/// The lines of an image.
 #[tactic(auto, unfolding(crate::specs::Listing::listing_text))]
-pub fn listing(alloc: Global, i: &Image) -> Result<Vec<u8>, Memory>
-    ensures { IfOk result (λ text. text.items ≡ listing_text i.now) }
+fn lines_of(alloc: Global, i: &Image) -> Result<Vec<u8>, Memory>
+    ensures text { IfOk result (λ text. text.items ≡ listing_text i.now) }
+    ensures obeys { OnOk result (Obeys i.now) }
+    ensures bytes { OnOk result (All (λ b. b < 256) i.now.memory) }
 {
     let mut out = Vec::from_slice(alloc, b"redn 1\nmemory")?;
     put_field(&mut out, i.memory.len() as u64)?;
@@ -314,4 +316,11 @@ pub fn listing(alloc: Global, i: &Image) -> Result<Vec<u8>, Memory>
     put_words(alloc, &mut out, &i.memory, &i.queues)?;
     out.extend_from_slice(b"end\n")?;
     Ok(out)
+}
+
+/// The listing of an image.
+pub fn listing(alloc: Global, i: &Image) -> Result<Vec<u8>, Memory>
+    ensures { IfOk result (λ text. IsListing text.items i.now) }
+{
+    lines_of(alloc, i)
 }

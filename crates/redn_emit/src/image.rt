@@ -14,7 +14,7 @@ use crate::rows::{queues_of, receives_of, regions_of};
 use crate::table::tables_of;
 use crate::words::graphs_words;
 use redn_graph::Graph;
-use redn_image::Image;
+use redn_image::{Image, image_of_kept};
 use redn_kernel::{ChainInit, Program};
 use redn_words::Memory;
 use std::alloc::Global;
@@ -111,10 +111,5 @@ pub fn emit(alloc: Global, p: &Program, graphs: &[Graph]) -> Result<Image, Memor
     let queues = queues_of(alloc, entries_base, &plans)?;
     let receives = receives_of(alloc, &plans)?;
     let memory = memory_of(alloc, &plans, &tables, p.tables.as_slice())?;
-    Ok(Image {
-        regions,
-        queues,
-        receives,
-        memory,
-    })
+    Ok(image_of_kept(regions, queues, receives, memory))
 }

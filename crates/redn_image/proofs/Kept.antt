@@ -17,6 +17,7 @@ pub record Kept (n : Numbers) : Type 0 where
   pub orders : breaking 13 (λ (earlier : List QueueNumbers) (q : QueueNumbers). nat_lt q.managed 2) [] n.queues ≡ []
   pub rings : breaking 14 (ring_is_inside n.size) [] n.queues ≡ []
   pub limits : breaking 15 (λ (earlier : List QueueNumbers) (q : QueueNumbers). nat_le q.limit q.slots) [] n.queues ≡ []
+  pub few : breaking 16 slots_are_few [] n.queues ≡ []
   pub places : breaking 17 (receive_is_inside n.size) [] n.receives ≡ []
 
 pub kept : (n : Numbers) → row_faults n ≡ [] → Kept n
@@ -63,6 +64,7 @@ kept n e =
       orders = none_behind to12 b13 e13;
       rings = none_behind to13 b14 e14;
       limits = none_behind to14 b15 e15;
+      few = none_behind to15 b16 e16;
       places = none_behind to16 b17 e;
     }
 

@@ -1,14 +1,18 @@
 -- Rows read from bytes, one after the other.
-use Rattle.std.proofs.Common.{◌≡◌, ℕ, zero, suc, ◌+◌, ◌-◌, length-drop, ◌*◌, ◌≤◌, List, [], ◌∷◌, ◌++◌, Fits, w8, length, take, drop, get_or, refl, sym, ap, ◌∙◌, arith}
+use Rattle.std.proofs.Common.{◌≡◌, ℕ, zero, suc, ◌+◌, ◌-◌, length-drop, ◌*◌, ◌<◌, ◌≤◌, List, [], ◌∷◌, ◌++◌, Fits, w8, length, take, drop, get_or, refl, sym, ap, ◌∙◌, arith}
 use Rattle.std.proofs.Math.Seq.{take-add}
 use Rattle.std.proofs.lemmas.List.{drop-drop, take_all}
-use Rattle.std.specs.List.{flat_map}
+use Rattle.std.specs.List.{All, flat_map}
+use Rattle.std.proofs.lemmas.List.Elements.{All-from_get_or}
 use Rattle.redn_words.proofs.Digits.{AreBytes, spelled-number}
 use Rattle.redn_words.specs.Words.{number, spelled}
 use Rattle.redn_image.specs.Spelling.{rows_from, region_at, queue_at, receive_at, spelled_region, spelled_queue, spelled_receive}
 
 pub are_bytes : (b : List ℕ) → ((i : ℕ) → Fits w8 (get_or b i 0)) → AreBytes b
 are_bytes b h = λ k. omega (arith, (h k).fits)
+
+pub all_bytes : (b : List ℕ) → ((i : ℕ) → Fits w8 (get_or b i 0)) → All (λ (x : ℕ). x < 256) b
+all_bytes b h = All-from_get_or (λ (x : ℕ). x < 256) b 0 (λ i l. omega (arith, (h i).fits))
 
 rows_behind : {X : Type 0} (read : List ℕ → ℕ → X) (len : ℕ) (b : List ℕ) (at n : ℕ) → rows_from read len b at (suc n) ≡ rows_from read len b at n ++ read b (at + len * n) ∷ []
 rows_behind read len b at zero = let e : at ≡ at + len * 0 = omega arith in ap (λ (o : ℕ). read b o ∷ []) e

@@ -112,6 +112,24 @@ fn first_fault(
     row_fault(alloc, &regions, &queues, receives, size)
 }
 
+/// The image of rows and a memory that are known to keep the rules.
+pub fn image_of_kept(
+    regions: Vec<Region>,
+    queues: Vec<QueueRow>,
+    receives: Vec<Receive>,
+    memory: Vec<u8>,
+) -> Image
+    requires { Obeys (parts_of regions.items queues.items receives.items memory.items) }
+    ensures { result ≡ parts_of regions.items queues.items receives.items memory.items }
+{
+    Image {
+        regions,
+        queues,
+        receives,
+        memory,
+    }
+}
+
 /// The image of these rows and this memory where they keep the rules, else the first rule that they
 /// break: those of the header, then those of the rows, one rule after the other.
 pub fn image_of(

@@ -17,22 +17,22 @@ use Rattle.redn_adapter.proofs.adapter.open.Goals.{After-i, In_default, In_ok-ch
 
 pub first_misfit-requires-clause-few : goal.first_misfit-requires-clause-few
 first_misfit-requires-clause-few c =
-    let inside = image_inside (image_view c.i.inside) c.i.invariant in
+    let inside = image_inside (image_view c.i.inside) c.i.invariant.obeys in
     omega (arith, inside.few, ap length c.deref.ensures.value)
 
 pub registered-requires-clause-few : goal.registered-requires-clause-few
 registered-requires-clause-few c =
-    let inside = image_inside (image_view c.i.inside) c.i.invariant in
+    let inside = image_inside (image_view c.i.inside) c.i.invariant.obeys in
     omega (arith, inside.few_regions)
 
 pub registered-requires-clause-ends : goal.registered-requires-clause-ends
 registered-requires-clause-ends c =
-    let inside = image_inside (image_view c.i.inside) c.i.invariant in
+    let inside = image_inside (image_view c.i.inside) c.i.invariant.obeys in
     let size = length c.i.inside.memory.items in
     All-weaker (λ (r : Region). r.base + r.len ≤ size) (λ (r : Region). r.base + r.len ≤ 2 ^ 64 - 1) (λ r h. omega (arith, inside.size)) c.i.inside.regions.items inside.regions
 
 pub registered-requires-clause-distinct : goal.registered-requires-clause-distinct
-registered-requires-clause-distinct c = keys_differ (image_view c.i.inside) c.i.invariant
+registered-requires-clause-distinct c = keys_differ (image_view c.i.inside) c.i.invariant.obeys
 
 messages_of : List (Option (Vec ℕ Global)) → List (Option (List ℕ))
 messages_of kept = map (option_map (λ (v : Vec ℕ Global). v.items)) kept
@@ -49,7 +49,7 @@ invariant_of-result c =
     let at = (goal.at.invariant_of-result c).In_default in
     let a = c.i.inside in
     let size = length a.memory.items in
-    let inside = image_inside (image_view a) c.i.invariant in
+    let inside = image_inside (image_view a) c.i.invariant.obeys in
     let messages = messages_of c.ms.inside.list.items in
     let rows = rw c.deref-3.ensures.value at c.in_ok-queues.ensures in
     let chains_length : length c.in_ok-chains.chains.items ≡ length a.receives.items = ap length c.in_ok-chains.ensures ∙ length-map messages fresh_chain ∙ ap length c.ms.view_is ∙ c.requires ∙ sym (ap (λ (i : Parts). length i.receives) c.i.view_is) in
@@ -90,17 +90,17 @@ many_chains c =
 
 pub overflow_cast-len : goal.overflow_cast-len
 overflow_cast-len c =
-    let inside = image_inside (image_view c.i.inside) c.i.invariant in
+    let inside = image_inside (image_view c.i.inside) c.i.invariant.obeys in
     omega (arith, inside.few, many_chains (goal.at.overflow_cast-len c).In_ok-chains, c.len.ensures, c.in_ok-chains.chains.ok)
 
 pub first_busy-requires-clause-few : goal.first_busy-requires-clause-few
 first_busy-requires-clause-few c =
-    let inside = image_inside (image_view c.i.inside) c.i.invariant in
+    let inside = image_inside (image_view c.i.inside) c.i.invariant.obeys in
     omega (arith, inside.few_queues, length-map c.i.inside.queues.items fresh_queue, ap length c.deref-4.ensures.value, ap length c.in_ok-queues.ensures, ap (λ (rows : List QueueRow). length (map fresh_queue rows)) c.deref-3.ensures.value)
 
 pub first_busy-requires-clause-domains : goal.first_busy-requires-clause-domains
 first_busy-requires-clause-domains c =
-    let inside = image_inside (image_view c.i.inside) c.i.invariant in
+    let inside = image_inside (image_view c.i.inside) c.i.invariant.obeys in
     let many = many_chains (goal.at.first_busy-requires-clause-domains c).In_ok-chains in
     let n : c.len.result ≡ length c.i.inside.receives.items = omega (arith, c.len.ensures, c.in_ok-chains.chains.ok, many) in
     let rows = rw c.deref-3.ensures.value at c.in_ok-queues.ensures in

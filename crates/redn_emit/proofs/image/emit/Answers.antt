@@ -95,8 +95,8 @@ tables_of-requires-clause-room c =
     let small = c.requires.sound.few_bytes in
     omega (arith, few, count, slots, words, bytes, small)
 
-pub invariant_of-result : goal.invariant_of-result
-invariant_of-result c =
+pub image_of_kept-requires : goal.image_of_kept-requires
+image_of_kept-requires c =
     let p = c.args.p.now in
     let graphs = c.args.graphs.now in
     let chains : c.in_ok-chains.chains.items ≡ placed.chains p graphs = c.in_ok-chains.ensures ∙ ap (λ (l : List ChainInit). placed.chains_from (length l) l graphs) c.as_slice.ensures in
@@ -135,4 +135,5 @@ returns c =
     let queues : c.in_ok-queues.queues.items ≡ placed.queues p graphs = c.in_ok-queues.ensures ∙ (λ i. map (entry_row (entries i)) ((c.deref-5.ensures.value ∙ plans) i) ++ flat_map ring_rows ((c.deref-5.ensures.value ∙ plans) i)) in
     let receives : c.in_ok-receives.receives.items ≡ map receive (placed.plans p graphs) = c.in_ok-receives.ensures ∙ ap (map receive) (c.deref-6.ensures.value ∙ plans) in
     let memory : c.in_ok-memory.memory.items ≡ placed.memory p graphs = c.in_ok-memory.ensures ∙ (λ i. flat_map (λ (x : ChainPlan). chain_code x ((c.deref-8.ensures.value ∙ tables) i)) ((c.deref-7.ensures.value ∙ plans) i) ++ (flat_map entry_bytes ((c.deref-7.ensures.value ∙ plans) i) ++ (flat_map chain_words ((c.deref-7.ensures.value ∙ plans) i) ++ flat_map (λ (t : TableInit). t.bytes) (c.as_slice-3.ensures i)))) in
-    record { placed = record { regions_are = regions; queues_are = queues; receives_are = receives; memory_is = memory }; words = c.graphs_words.ensures }
+    let all : placed.IsPlaced p graphs (parts_of c.in_ok-regions.regions.items c.in_ok-queues.queues.items c.in_ok-receives.receives.items c.in_ok-memory.memory.items) = record { regions_are = regions; queues_are = queues; receives_are = receives; memory_is = memory } in
+    record { placed = subst (λ (i : Image). placed.IsPlaced p graphs i) (sym c.image_of_kept.ensures) all; words = c.graphs_words.ensures }

@@ -1,11 +1,12 @@
-use Rattle.std.proofs.Common.{◌≡◌, List, [], Some, None, length, map, sym, ap, subst, ◌∙◌, arith}
+use Rattle.std.proofs.Common.{◌≡◌, ◌<◌, ℕ, List, [], Some, None, length, map, sym, ap, subst, ◌∙◌, arith}
 use Rattle.std.specs.List.{All}
+use Rattle.std.proofs.lemmas.List.Elements.{All-drop}
 use Rattle.redn_image.specs.Answers.{IsQueue, IsRegion, SaysWhy}
 use Rattle.redn_image.specs.Rules.{Image, Numbers, QueueNumbers, RegionNumbers, first_of, parts_of, queue_numbers, region_numbers, row_faults}
 use Rattle.redn_image.specs.Spelling.{Broken, queue_at, receive_at, refused, region_at}
 use Rattle.redn_image.proofs.Firsts.{none_first}
 use Rattle.redn_image.proofs.Kept.{are_queues, are_regions}
-use Rattle.redn_image.proofs.Reading.{all_left, are_bytes, length-rows}
+use Rattle.redn_image.proofs.Reading.{all_bytes, all_left, are_bytes, length-rows}
 use Rattle.redn_image.proofs.Whole.{Parts, Rows, of_rows, few_queues, few_receives, few_regions, not_refused, parts_read, read_obeys, read_spells, refused_row}
 use Rattle.redn_image.proofs.read.image_in.Goals as goal
 
@@ -58,7 +59,10 @@ invariant_of-result c =
     let i : Image = parts_of c.in_ok-regions-2.regions.items c.in_ok-queues-2.queues.items c.in_ok-receives.receives.items c.in_ok-memory.memory.items in
     let made : Rows b h.regions h.queues h.receives (map region_numbers i.regions) (map queue_numbers i.queues) i.receives = record { regions_are = c.in_ok-regions-2.ensures ∙ c.deref-4.ensures.value ∙ c.in_ok-regions.ensures; queues_are = c.in_ok-queues-2.ensures ∙ c.deref-5.ensures.value ∙ c.in_ok-queues.ensures; receives_are = c.in_ok-receives.ensures } in
     let parts : Parts b h.regions h.queues h.receives h.size i = parts_read b h.regions h.queues h.receives h.size i _ _ _ c.in_ok-header.ensures.header c.in_ok-check_length.ensures.same rows none made (c.in_ok-memory.ensures.items ∙ all_left b _) in
-    read_obeys b h.regions h.queues h.receives h.size i parts
+    record {
+      obeys = read_obeys b h.regions h.queues h.receives h.size i parts;
+      bytes = subst (λ (l : List ℕ). All (λ (x : ℕ). x < 256) l) (sym (c.in_ok-memory.ensures.items ∙ all_left b _)) (All-drop (λ (x : ℕ). x < 256) _ b (all_bytes b c.type_inv.bytes));
+    }
 
 pub returns-clause-image : goal.returns-clause-image
 returns-clause-image c =
