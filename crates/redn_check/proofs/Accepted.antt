@@ -16,7 +16,7 @@ use Rattle.redn_check.specs.declared.fault.Fault.{Fault}
 use Rattle.redn_check.specs.Faults.{fault, when}
 use Rattle.redn_check.specs.Statements.{with_earlier, each_of}
 use Rattle.redn_check.specs.Names.{table_names, chain_names, variables}
-use Rattle.redn_check.specs.Rules.{twice, one_too_many, number_faults, statement_faults, control_faults, chain_faults, bad_length, bad_item, table_faults, too_heavy, weights, Accepts}
+use Rattle.redn_check.specs.Rules.{twice, one_too_many, number_faults, statement_faults, control_faults, chain_faults, bad_length, bad_items, table_faults, too_heavy, weights, Accepts}
 use Rattle.redn_check.proofs.Nothing.{nil_left, nil_right, when_none}
 use Rattle.redn_check.proofs.Behind.{with_earlier-append, behind_one, behind_all, split_at}
 
@@ -55,11 +55,11 @@ module _ (tables : List Table) (none : flat_map (λ e. table_faults e.0 e.1) (wi
   at_table : (i : ℕ) (t : Table) → i < length tables → t ≡ get_or tables i t → table_faults (take i tables) t ≡ []
   at_table i t h e = none_behind (λ x. table_faults x.0 x.1) tables i t h e none
 
-  pub placed_items : (i : ℕ) (t : Table) → i < length tables → t ≡ get_or tables i t → bad_item t ≡ []
-  placed_items i t h e = nil_right _ (bad_item t) (at_table i t h e)
+  pub placed_items : (i : ℕ) (t : Table) → i < length tables → t ≡ get_or tables i t → bad_items t ≡ []
+  placed_items i t h e = nil_right _ (bad_items t) (at_table i t h e)
 
   pub good_length : (i : ℕ) (t : Table) → i < length tables → t ≡ get_or tables i t → bad_length (take i tables) t ≡ []
-  good_length i t h e = nil_right _ (bad_length (take i tables) t) (nil_left _ (bad_item t) (at_table i t h e))
+  good_length i t h e = nil_right _ (bad_length (take i tables) t) (nil_left _ (bad_items t) (at_table i t h e))
 
   pub few_tables : length tables ≤ 64
   few_tables = by (cases_lt 64 (length tables))
@@ -67,7 +67,7 @@ module _ (tables : List Table) (none : flat_map (λ e. table_faults e.0 e.1) (wi
       by : (64 < length tables) ⊎ (length tables ≤ 64) → length tables ≤ 64
       by (inl h) =
           let t = get_or tables 64 blank in
-          let many = nil_left (when (length (take 64 tables) == 64) (fault 12 t.name.at 65)) _ (nil_left _ (bad_item t) (at_table 64 t h (get_or_default tables 64 blank t h))) in
+          let many = nil_left (when (length (take 64 tables) == 64) (fault 12 t.name.at 65)) _ (nil_left _ (bad_items t) (at_table 64 t h (get_or_default tables 64 blank t h))) in
           let test = when_none (length (take 64 tables) == 64) (fault 12 t.name.at 65) many in
           let size = length-take-le 64 tables (omega arith) in
           absurd (grind (arith, nat_tests))

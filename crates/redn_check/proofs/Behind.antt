@@ -1,21 +1,21 @@
 -- Places behind others, items behind others, and lengths that sum up.
-use Rattle.std.proofs.Common.{◌≡◌, ℕ, zero, suc, ◌+◌, ◌-◌, ◌<◌, ◌≤◌, min, true, false, List, [], ◌∷◌, ◌++◌, length, map, take, drop, get_or, Some, None, slice_get, refl, sym, ap, ◌∙◌, arith}
+use Rattle.std.proofs.Common.{◌≡◌, ℕ, zero, suc, ◌+◌, ◌-◌, ◌^◌, ◌<◌, ◌≤◌, min, false, List, [], ◌∷◌, ◌++◌, length, map, take, drop, get_or, Some, None, slice_get, refl, sym, ap, ◌∙◌, arith}
 use Rattle.std.specs.List.{flat_map, sum_by}
-use Rattle.std.proofs.lemmas.List.{append-nil, map-append, take_more, drop_more, take-append-drop, take_all, get_or_default, length-map}
+use Rattle.std.proofs.lemmas.List.{append-nil, map-append, take_more, drop_more, take-append-drop, get_or_default, length-map}
 use Rattle.std.proofs.lemmas.List.Concat.{flat_map-append}
 use Rattle.std.proofs.lemmas.Grind.{fold-append}
 use Rattle.std.proofs.lemmas.Option.{slice_get-map}
-use Rattle.std.specs.Option.{option_map}
+use Rattle.std.specs.Prelude.{Option}
+use Rattle.std.specs.Option.{option_map, option_map_or}
 use Rattle.std.proofs.lemmas.Bool.Decides.{nat_tests}
 use Rattle.redn_syntax.specs.declared.tree.Item.{Item}
 use Rattle.redn_syntax.specs.declared.tree.Name.{Name}
+use Rattle.redn_syntax.specs.declared.tree.Num.{Num}
 use Rattle.redn_syntax.specs.declared.tree.VarDecl.{VarDecl}
 use Rattle.redn_check.specs.Names.{variable_names}
-use Rattle.redn_check.specs.declared.fault.Fault.{Fault}
-use Rattle.redn_check.specs.Faults.{fault, when, first_of}
+use Rattle.redn_check.specs.Faults.{fault}
 use Rattle.redn_check.specs.Statements.{with_earlier}
 use Rattle.redn_check.specs.Rules.{offset_behind, end_of, is_misplaced, misplaced, place_of_item}
-use Rattle.redn_check.proofs.EarliestOf.{with_earlier_push}
 use Rattle.redn_check.proofs.Nothing.{nil_left, nil_right, when_none}
 
 pub slice_get_right : {X : Type 0} (xs ys : List X) (k : ℕ) → length xs ≤ k → slice_get (xs ++ ys) k ≡ slice_get ys (k - length xs)
@@ -51,15 +51,6 @@ module _ {X : Type 0} where
       ap (λ l. ([], x) ∷ map (behind_one x) l) (with_earlier-append xs ys)
       ∙ ap (λ l. ([], x) ∷ l) (map-append (behind_one x) (with_earlier xs) (map (behind_all xs) (with_earlier ys)) ∙ ap (λ l. map (behind_one x) (with_earlier xs) ++ l) (behind_both x xs (with_earlier ys)))
 
-  -- the first fault is that of the first element that has one
-  pub first_bad : (g : List X × X → List Fault) (xs ys : List X) (x : X) (f : Fault) → flat_map g (with_earlier xs) ≡ [] → g (xs, x) ≡ f ∷ [] →
-      take 1 (flat_map g (with_earlier (xs ++ x ∷ ys))) ≡ f ∷ []
-  first_bad g xs ys x f none here =
-      let rest = map (behind_all xs) (map (behind_one x) (with_earlier ys)) in
-      ap (λ l. take 1 (flat_map g l)) (with_earlier-append xs (x ∷ ys)) ∙ ap (take 1) (flat_map-append g (with_earlier xs) ((xs ++ [], x) ∷ rest))
-      ∙ ap (λ l. take 1 (l ++ (g (xs ++ [], x) ++ flat_map g rest))) none ∙ ap (λ l. take 1 (g (l, x) ++ flat_map g rest)) (append-nil xs)
-      ∙ ap (λ l. take 1 (l ++ flat_map g rest)) here
-
   pub split_at : (xs : List X) (i : ℕ) (x : X) → i < length xs → x ≡ get_or xs i x → xs ≡ take i xs ++ x ∷ drop (i + 1) xs
   split_at xs i x h e = sym (take-append-drop i xs) ∙ ap (λ l. take i xs ++ l) (drop_more xs i x h ∙ ap (λ y. y ∷ drop (i + 1) xs) (sym e))
 
@@ -68,39 +59,21 @@ end_push items i = fold-append (λ end x. offset_behind end x + 8) 0 items (i �
 
 -- ---- the items of a table
 
-module _ (len end offset i : ℕ) (items : List Item) (d : Item) (within : i < length items) (ended : end ≡ end_of (take i items))
-    (placed : flat_map (λ e. misplaced len e.0 e.1) (with_earlier (take i items)) ≡ []) (stands : offset ≡ offset_behind end (get_or items i d)) where
-  abbrev item : Item
-  item = get_or items i d
+-- where an item stands behind an end that stops at the greatest number
+pub offset_capped : (end from offset : ℕ) (i : Item) → end ≡ min from (2 ^ 64 - 1) → offset < 2 ^ 64 → offset ≡ offset_behind end i → offset ≡ min (offset_behind from i) (2 ^ 64 - 1)
+offset_capped end from offset i ended low stands = by_place i.at stands
+  where
+    by_place : (o : Option Num) → offset ≡ option_map_or (λ (n : Num). n.value) o end → offset ≡ min (option_map_or (λ (n : Num). n.value) o from) (2 ^ 64 - 1)
+    by_place None e = e ∙ ended
+    by_place (Some n) e = omega (arith, e, low)
 
-  same_offset : offset ≡ offset_behind (end_of (take i items)) item
-  same_offset = stands ∙ ap (λ e. offset_behind e item) ended
-
-  misplaced_is : (place : ℕ) → place ≡ place_of_item item → when (is_misplaced len end offset) (fault 12 place offset) ≡ misplaced len (take i items) item
-  misplaced_is place at = λ j. when (is_misplaced len (ended j) (same_offset j)) (fault 12 (at j) (same_offset j))
-
-  pub bad_here : (place : ℕ) → place ≡ place_of_item item → is_misplaced len end offset ≡ true →
-      Some (fault 12 place offset) ≡ first_of (take 1 (flat_map (λ e. misplaced len e.0 e.1) (with_earlier items)))
-  bad_here place at bad =
-      let here = sym (misplaced_is place at) ∙ ap (λ b. when b (fault 12 place offset)) bad in
-      let whole = split_at items i item within (get_or_default items i d item within) in
-      sym (ap (λ l. first_of (take 1 (flat_map (λ e. misplaced len e.0 e.1) (with_earlier l)))) whole ∙ ap first_of (first_bad (λ e. misplaced len e.0 e.1) (take i items) (drop (i + 1) items) item (fault 12 place offset) placed here))
-
-  pub good_end : offset + 8 ≡ end_of (take (i + 1) items)
-  good_end = ap (λ n. n + 8) same_offset ∙ sym (ap end_of (take_more items i d within) ∙ end_push (take i items) item)
-
-  pub good_here : is_misplaced len end offset ≡ false → flat_map (λ e. misplaced len e.0 e.1) (with_earlier (take (i + 1) items)) ≡ []
-  good_here good =
-      let here = sym (misplaced_is (place_of_item item) refl) ∙ ap (λ b. when b (fault 12 (place_of_item item) offset)) good in
-      ap (λ l. flat_map (λ e. misplaced len e.0 e.1) (with_earlier l)) (take_more items i d within)
-      ∙ ap (flat_map (λ e. misplaced len e.0 e.1)) (with_earlier_push (take i items) item)
-      ∙ flat_map-append (λ e. misplaced len e.0 e.1) (with_earlier (take i items)) ((take i items, item) ∷ [])
-      ∙ (λ j. placed j ++ (here j ++ []))
-
-pub none_bad : (len i : ℕ) (items all : List Item) → items ≡ all → length items ≤ i → flat_map (λ e. misplaced len e.0 e.1) (with_earlier (take i items)) ≡ [] →
-    None ≡ first_of (take 1 (flat_map (λ e. misplaced len e.0 e.1) (with_earlier all)))
-none_bad len i items all same past placed =
-    sym (ap (λ l. first_of (take 1 l)) (sym (ap (λ l. flat_map (λ e. misplaced len e.0 e.1) (with_earlier l)) (take_all i items past ∙ same)) ∙ placed))
+-- the end of the items so far, one more
+pub end_more : (end next offset i : ℕ) (items : List Item) (d : Item) → i < length items → end ≡ min (end_of (take i items)) (2 ^ 64 - 1) → offset < 2 ^ 64 → offset ≡ offset_behind end (get_or items i d) → next ≡ min (offset + 8) (2 ^ 64 - 1) →
+    next ≡ min (end_of (take (i + 1) items)) (2 ^ 64 - 1)
+end_more end next offset i items d within ended low stands is =
+    let there = offset_capped end (end_of (take i items)) offset (get_or items i d) ended low stands in
+    let more : end_of (take (i + 1) items) ≡ offset_behind (end_of (take i items)) (get_or items i d) + 8 = ap end_of (take_more items i d within) ∙ end_push (take i items) (get_or items i d) in
+    omega (arith, there, more, is)
 
 -- ---- the variable behind so many
 
@@ -136,18 +109,14 @@ good_last end offset i items d within ended stands =
 -- ---- no item is misplaced
 
 module _ (len i : ℕ) (items all : List Item) (d : Item) (same : items ≡ all) (within : i < length items)
-    (none : take 1 (flat_map (λ e. misplaced len e.0 e.1) (with_earlier all)) ≡ []) where
-  first_none : {X : Type 0} (xs : List X) → take 1 xs ≡ [] → xs ≡ []
-  first_none [] e = refl
-  first_none (x ∷ xs) e = cc
-
+    (none : flat_map (λ e. misplaced len e.0 e.1) (with_earlier all) ≡ []) where
   pub none_here : misplaced len (take i items) (get_or items i d) ≡ []
   none_here =
       let x = get_or items i d in
       let rest = map (behind_all (take i items)) (map (behind_one x) (with_earlier (drop (i + 1) items))) in
       let whole : flat_map (λ e. misplaced len e.0 e.1) (with_earlier (take i items) ++ ((take i items ++ [], x) ∷ rest)) ≡ [] =
       ap (flat_map (λ e. misplaced len e.0 e.1)) (sym (with_earlier-append (take i items) (x ∷ drop (i + 1) items)))
-      ∙ ap (λ l. flat_map (λ e. misplaced len e.0 e.1) (with_earlier l)) (sym (split_at items i x within (get_or_default items i d x within)) ∙ same) ∙ first_none _ none
+      ∙ ap (λ l. flat_map (λ e. misplaced len e.0 e.1) (with_earlier l)) (sym (split_at items i x within (get_or_default items i d x within)) ∙ same) ∙ none
       in
       let later = nil_right (flat_map (λ e. misplaced len e.0 e.1) (with_earlier (take i items))) _ (sym (flat_map-append (λ e. misplaced len e.0 e.1) (with_earlier (take i items)) ((take i items ++ [], x) ∷ rest)) ∙ whole) in
       ap (λ l. misplaced len l x) (sym (append-nil (take i items))) ∙ nil_left _ (flat_map (λ e. misplaced len e.0 e.1) rest) later
@@ -155,7 +124,7 @@ module _ (len i : ℕ) (items all : List Item) (d : Item) (same : items ≡ all)
   pub fits_here : (end offset : ℕ) → end ≡ end_of (take i items) → offset ≡ offset_behind end (get_or items i d) → offset + 8 ≤ len
   fits_here end offset ended stands =
       let x = get_or items i d in
-      let good = when_none _ (fault 12 (place_of_item x) (offset_behind (end_of (take i items)) x)) none_here in
+      let good = when_none _ (fault 12 (place_of_item x) (min (offset_behind (end_of (take i items)) x) (2 ^ 64 - 1))) none_here in
       let there : offset ≡ offset_behind (end_of (take i items)) x = stands ∙ ap (λ e. offset_behind e x) ended in
       let same_test : is_misplaced len (end_of (take i items)) offset ≡ false = ap (is_misplaced len (end_of (take i items))) there ∙ good in
       grind (arith, nat_tests)

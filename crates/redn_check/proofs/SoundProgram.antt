@@ -1,5 +1,5 @@
 -- The program of an accepted file is sound.
-use Rattle.std.proofs.Common.{◌≡◌, ℕ, zero, suc, ◌+◌, ◌%◌, ◌<◌, ◌≤◌, Bool, false, not, ◌||◌, ◌==◌, List, [], ◌∷◌, ◌++◌, length, map, take, drop, replicate, fold, get_or, None, Result, Ok, Err, IfOk, refl, sym, ap, ◌∙◌, subst, arith}
+use Rattle.std.proofs.Common.{◌≡◌, ℕ, zero, suc, ◌+◌, ◌%◌, ◌<◌, ◌≤◌, Bool, false, not, ◌||◌, ◌==◌, List, [], ◌∷◌, ◌++◌, length, map, take, replicate, fold, get_or, None, Result, Ok, Err, IfOk, refl, sym, ap, ◌∙◌, subst, arith}
 use Rattle.std.specs.Prelude.{All}
 use Rattle.std.specs.List.{flat_map, sum_by}
 use Rattle.std.proofs.lemmas.Bool.{or_parts}
@@ -27,7 +27,7 @@ use Rattle.redn_kernel.specs.Program.{AreBytes, AreWords, IsSound, IsSoundChain,
 use Rattle.redn_check.specs.Faults.{fault, when}
 use Rattle.redn_check.specs.Names.{table_names, variables, variable_names}
 use Rattle.redn_check.specs.Statements.{with_earlier, each_of}
-use Rattle.redn_check.specs.Rules.{passes, lengths, bad_item, offset_behind, end_of, table_faults, chain_faults, loose_breaks, open_end, unreached, flow_faults, control_faults, Weight, weight_at, weights, weight_of_all, too_heavy, Accepts}
+use Rattle.redn_check.specs.Rules.{passes, lengths, bad_items, offset_behind, end_of, table_faults, chain_faults, loose_breaks, open_end, unreached, flow_faults, control_faults, Weight, weight_at, weights, weight_of_all, too_heavy, Accepts}
 use Rattle.redn_check.specs.Numbering.{kernel_of, placed, written, table_bytes, table_init, first_value, first_values, chain_init, program_of}
 use Rattle.redn_check.proofs.Nothing.{nil_left, nil_right, when_none}
 use Rattle.redn_check.proofs.Inner.{Each}
@@ -71,7 +71,7 @@ module _ {X : Type 0} (f : X → ℕ) (most : ℕ) (xs : List X) (d : X) (never 
 no_item : Item
 no_item = record { at = None; word = record { value = 0; at = 0 } }
 
-module _ (t : Table) (good : bad_item t ≡ []) where
+module _ (t : Table) (good : bad_items t ≡ []) where
   bytes_up_to : (i : ℕ) → i ≤ length t.items → length (fold written (replicate t.length.value 0) (placed (take i t.items))) ≡ t.length.value
   bytes_up_to zero h = length-replicate t.length.value 0
   bytes_up_to (suc i) h =
@@ -121,8 +121,8 @@ whole_words n past size e test =
     (grind (arith, nat_tests), ap (λ m. m % 8) e ∙ grind (arith, nat_tests))
 
 module _ (tables : List Table) (none : flat_map (λ e. table_faults e.0 e.1) (with_earlier tables) ≡ []) where
-  items_good : Each (λ t. bad_item t ≡ []) tables
-  items_good = each_at (λ t. bad_item t ≡ []) tables blank (λ i h. placed_items tables none i (get_or tables i blank) h (get_or_default tables i blank (get_or tables i blank) h))
+  items_good : Each (λ t. bad_items t ≡ []) tables
+  items_good = each_at (λ t. bad_items t ≡ []) tables blank (λ i h. placed_items tables none i (get_or tables i blank) h (get_or_default tables i blank (get_or tables i blank) h))
 
   length_test : (i : ℕ) → i < length tables → ((get_or tables i blank).length.value == 0 || not ((get_or tables i blank).length.value % 8 == 0) || passes 1048576 (lengths (take i tables)) (get_or tables i blank).length.value) ≡ false
   length_test i h =
@@ -136,7 +136,7 @@ module _ (tables : List Table) (none : flat_map (λ e. table_faults e.0 e.1) (wi
       let whole = whole_words t.length.value _ (length (table_bytes t)) size (length_test i h) in
       (whole.0, whole.1, bytes_written (replicate t.length.value 0) (placed t.items) (zeros_are_bytes t.length.value)))
 
-  table_lengths : (ts : List Table) → Each (λ t. bad_item t ≡ []) ts → sum_by (λ (t : TableInit). length t.bytes) (map table_init ts) ≡ lengths ts
+  table_lengths : (ts : List Table) → Each (λ t. bad_items t ≡ []) ts → sum_by (λ (t : TableInit). length t.bytes) (map table_init ts) ≡ lengths ts
   table_lengths [] h = refl
   table_lengths (t ∷ ts) h =
       sum_by-cons (λ (t : TableInit). length t.bytes) (table_init t) (map table_init ts) ∙ (λ j. bytes_length t h.0 j + table_lengths ts h.1 j)

@@ -12,7 +12,7 @@ use Rattle.redn_syntax.specs.declared.tree.File.{File}
 use Rattle.redn_syntax.specs.declared.tree.Stmt.{Stmt}
 use Rattle.redn_syntax.specs.declared.tree.StmtKind.TheVariants as k
 use Rattle.redn_check.specs.Faults.{fault, first_of}
-use Rattle.redn_check.specs.Rules.{faults, one_too_many, bad_length, bad_item, table_faults, outside, weights, weight_at, too_heavy}
+use Rattle.redn_check.specs.Rules.{faults, one_too_many, bad_length, bad_items, table_faults, outside, weights, weight_at, too_heavy}
 use Rattle.redn_check.proofs.WrittenOut.{stmt, inner_add, exits_add, idles_add, inner_store, exits_store, breaks_store, inner_loop, exits_loop, idles_loop, breaks_loop, inner_repeat, inner_break, exits_break, idles_break, breaks_break, inner_lookup, exits_lookup, breaks_lookup, inner_walk, exits_walk, breaks_walk, inner_reply, exits_reply, breaks_reply}
 
 abbrev pub name : List ℕ → ℕ → Name
@@ -160,17 +160,25 @@ abbrev item_at : ℕ → ℕ → Item
 item_at offset at = record { at = Some (number offset at); word = number 1 99 }
 
 -- { 8: 1, 1, 32: 1 }
-items_in_order : bad_item (table 40 false (item_at 8 20 ∷ item 26 ∷ item_at 32 29 ∷ [])) ≡ []
+items_in_order : bad_items (table 40 false (item_at 8 20 ∷ item 26 ∷ item_at 32 29 ∷ [])) ≡ []
 items_in_order = refl
 
-an_item_between_words : bad_item (table 40 false (item_at 4 20 ∷ [])) ≡ fault 12 20 4 ∷ []
+an_item_between_words : bad_items (table 40 false (item_at 4 20 ∷ [])) ≡ fault 12 20 4 ∷ []
 an_item_between_words = refl
 
-an_item_over_another : bad_item (table 40 false (item_at 8 20 ∷ item_at 8 26 ∷ [])) ≡ fault 12 26 8 ∷ []
+an_item_over_another : bad_items (table 40 false (item_at 8 20 ∷ item_at 8 26 ∷ [])) ≡ fault 12 26 8 ∷ []
 an_item_over_another = refl
 
-an_item_past_the_end : bad_item (table 16 false (item_at 8 20 ∷ item 26 ∷ [])) ≡ fault 12 26 16 ∷ []
+an_item_past_the_end : bad_items (table 16 false (item_at 8 20 ∷ item 26 ∷ [])) ≡ fault 12 26 16 ∷ []
 an_item_past_the_end = refl
+
+-- in a tree whose places don't rise the lesser place is told, which is the second item's here
+the_lesser_place : first_of (bad_items (table 16 false (item_at 4 30 ∷ item_at 12 20 ∷ []))) ≡ Some (fault 12 20 12)
+the_lesser_place = refl
+
+-- behind the greatest offset there is no place, and the greatest is told
+behind_the_greatest : bad_items (table 16 false (item_at 18446744073709551615 30 ∷ item 20 ∷ [])) ≡ fault 12 30 18446744073709551615 ∷ fault 12 20 18446744073709551615 ∷ []
+behind_the_greatest = refl
 
 -- ---- rule 13
 

@@ -1,5 +1,5 @@
 -- The rules of a source file: for each the list of its faults, in the order of the tree.
-use Rattle.std.specs.Prelude.{◌≡◌, ℕ, ◌+◌, ◌%◌, Bool, false, not, ◌&&◌, ◌||◌, ◌==◌, nat_lt, nat_le, List, [], ◌∷◌, ◌++◌, length, map, fold, take, Option, Some, None, slice_get, sum_by}
+use Rattle.std.specs.Prelude.{◌≡◌, ℕ, ◌+◌, ◌-◌, ◌%◌, ◌^◌, min, Bool, false, not, ◌&&◌, ◌||◌, ◌==◌, nat_lt, nat_le, List, [], ◌∷◌, ◌++◌, length, map, fold, Option, Some, None, slice_get, sum_by}
 use Rattle.std.specs.List.{flat_map, list_any}
 use Rattle.std.specs.Option.{option_map_or}
 use Rattle.std.specs.Str.{bytes_eq}
@@ -112,17 +112,18 @@ is_misplaced len end offset = not (offset % 8 == 0) || nat_lt offset end || nat_
 abbrev pub place_of_item : Item → ℕ
 place_of_item i = option_map_or (λ (n : Num). n.at) i.at i.word.at
 
+-- an offset that is no number of a text is told as the greatest
 abbrev pub misplaced : ℕ → List Item → Item → List Fault
 misplaced len earlier i =
     let offset = offset_behind (end_of earlier) i in
-    when (is_misplaced len (end_of earlier) offset) (fault 12 (place_of_item i) offset)
+    when (is_misplaced len (end_of earlier) offset) (fault 12 (place_of_item i) (min offset (2 ^ 64 - 1)))
 
--- the first one of a table
-abbrev pub bad_item : Table → List Fault
-bad_item t = take 1 (flat_map (λ e. misplaced t.length.value e.0 e.1) (with_earlier t.items))
+-- those of a table
+abbrev pub bad_items : Table → List Fault
+bad_items t = flat_map (λ e. misplaced t.length.value e.0 e.1) (with_earlier t.items)
 
 abbrev pub table_faults : List Table → Table → List Fault
-table_faults earlier t = when (length earlier == 64) (fault 12 t.name.at 65) ++ bad_length earlier t ++ bad_item t
+table_faults earlier t = when (length earlier == 64) (fault 12 t.name.at 65) ++ bad_length earlier t ++ bad_items t
 
 -- ---- rule 13: numbers and replies keep to their ranges
 

@@ -3,6 +3,7 @@
 ghost use Rattle.std.specs.Prelude.{◌≡◌, ◌-◌, ◌^◌, min, map, List, slice_get};
 ghost use Rattle.std.specs.List.{flat_map};
 ghost use Rattle.redn_check.specs.Faults.{first_of};
+ghost use Rattle.redn_syntax.specs.declared.tree.Item.{Item as SpecItem};
 ghost use Rattle.redn_syntax.specs.declared.tree.Table.{Table as SpecTable};
 ghost use Rattle.redn_check.specs.Names.{variables};
 ghost use Rattle.redn_check.specs.Rules as rule;
@@ -87,20 +88,28 @@ fn is_misplaced(length: u64, end: u64, offset: u64) -> bool
     offset % 8 != 0 || offset < end || length < 8 || length - 8 < offset
 }
 
-/// The first item of a table that is out of place.
-fn bad_item(table: &Table) -> Option<Fault>
-    ensures { result ≡ first_of (rule.bad_item table.now) }
+/// The fault of an item, behind others whose end stops at 2^64 - 1.
+fn misplaced(length: u64, end: u64, item: &Item) -> Option<Fault>
+    ensures { (before : List SpecItem) → end ≡ min (rule.end_of before) (2 ^ 64 - 1) →
+        result ≡ first_of (rule.misplaced length before item.now) }
+{
+    let offset = offset_behind(end, item);
+    let broken = is_misplaced(length, end, offset);
+    when(broken, 12, place_of_item(item), offset)
+}
+
+/// The fault of a table's items that is told.
+fn bad_items(table: &Table) -> Option<Fault>
+    ensures { result ≡ first_of (rule.bad_items table.now) }
 {
     let length = table.length.value;
-    let mut end = 0;
+    let mut first = None;
+    let mut end = 0u64;
     for item in table.items.as_slice() {
-        let offset = offset_behind(end, item);
-        if is_misplaced(length, end, offset) {
-            return when(true, 12, place_of_item(item), offset);
-        }
-        end = offset + 8;
+        first = earlier(first, misplaced(length, end, item));
+        end = offset_behind(end, item).saturating_add(8);
     }
-    None
+    first
 }
 
 pub fn first_in_tables(tables: &[Table]) -> Option<Fault>
@@ -112,7 +121,7 @@ pub fn first_in_tables(tables: &[Table]) -> Option<Fault>
     for (i, table) in tables.iter().enumerate() {
         let one_more = when(i == MAX_TABLES, 12, table.name.at, MAX_TABLES as u64 + 1);
         let own = earlier(one_more, bad_length(total, table.length));
-        first = earlier(first, earlier(own, bad_item(table)));
+        first = earlier(first, earlier(own, bad_items(table)));
         total = total.saturating_add(table.length.value);
     }
     first

@@ -203,7 +203,7 @@ fn kernels(alloc: Global, numbers: &Numbers, body: &[Stmt]) -> Result<Items<Kern
 
 /// Writes the words of a table's items over its bytes.
 fn write_items(bytes: &mut [u8], table: &Table)
-    requires placed { rule.bad_item table.now ≡ [] }
+    requires placed { rule.bad_items table.now ≡ [] }
     requires whole { length bytes.old ≡ table.now.length.value }
     ensures { bytes.new ≡ fold numbering.written bytes.old (numbering.placed table.now.items) }
 {
@@ -217,7 +217,7 @@ fn write_items(bytes: &mut [u8], table: &Table)
 
 /// A table's bytes: zeros, with the words of its items over them.
 fn table_bytes(alloc: Global, table: &Table) -> Result<Items<u8>, Memory>
-    requires { rule.bad_item table.now ≡ [] }
+    requires { rule.bad_items table.now ≡ [] }
     ensures { IfOk result (λ bytes. bytes ≡ numbering.table_bytes table.now) }
 {
     let mut bytes = vec![in alloc; 0; table.length.value as usize]?;

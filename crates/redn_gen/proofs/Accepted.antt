@@ -1,5 +1,5 @@
 -- The rules of the language find no fault in the generated file.
-use Rattle.std.proofs.Common.{arith, ◌≡◌, ℕ, zero, suc, ◌+◌, ◌*◌, ◌%◌, ◌<◌, ◌≤◌, false, List, [], ◌∷◌, ◌++◌, map, take, codes, refl, sym, ap, subst, ◌∙◌}
+use Rattle.std.proofs.Common.{arith, ◌≡◌, ℕ, zero, suc, ◌+◌, ◌-◌, ◌*◌, ◌%◌, ◌^◌, ◌<◌, ◌≤◌, min, false, List, [], ◌∷◌, ◌++◌, map, codes, refl, sym, ap, subst, ◌∙◌}
 use Rattle.std.specs.List.{flat_map}
 use Rattle.std.specs.Fmt.{digits}
 use Rattle.std.proofs.lemmas.List.Concat.{flat_map-append}
@@ -35,7 +35,7 @@ fits end count is few = grind (arith, nat_tests)
 
 one_word : (items : List Item) (count value : ℕ) → count < 1024 → InARow items count → InARow (items ++ word value ∷ []) (count + 1)
 one_word items count value few row =
-    let here : misplaced 8192 items (word value) ≡ [] = ap (λ b. when b (fault 12 0 (end_of items))) (fits (end_of items) count row.ends few) in
+    let here : misplaced 8192 items (word value) ≡ [] = ap (λ b. when b (fault 12 0 (min (end_of items) (2 ^ 64 - 1)))) (fits (end_of items) count row.ends few) in
     let further : end_of items + 8 ≡ 8 * (count + 1) = omega (arith, row.ends) in
     record {
       ends = end_push items (word value) ∙ further;
@@ -60,7 +60,7 @@ abbrev pub table_of : List Item → Table
 table_of items = record { name = name (codes "t"); length = number 8192; writable = false; items = items }
 
 table_kept : (items : List Item) → all_misplaced items ≡ [] → table_faults [] (table_of items) ≡ []
-table_kept items placed = ap (take 1) placed
+table_kept items placed = placed
 
 -- ---- the chains
 

@@ -1,12 +1,12 @@
 use Rattle.std.proofs.Common.{rules, ap, sym, ◌∙◌, ◌≤◌, arith, map}
 use Rattle.redn_syntax.specs.declared.tree.StmtKind.{out-StmtKind, the_lemmas}
 use Rattle.redn_syntax.specs.declared.tree.Stmt as q
-use Rattle.redn_syntax.specs.declared.tree.StmtKind.TheVariants.{outs-If, outs-Loop, outs-Repeat, outs-Move, outs-Add, outs-Load, outs-Store, outs-Break, outs-Lookup, outs-Walk, outs-Reply}
+use Rattle.redn_syntax.specs.declared.tree.StmtKind.TheVariants.{outs-If, outs-Loop, outs-Repeat, outs-Reply}
 use Rattle.redn_kernel.specs.declared.types.Kernel.TheVariants as k
 use Rattle.redn_check.specs.Names.{table_names, variables}
 use Rattle.redn_check.specs.Numbering.{kernel_of, word_of}
 use Rattle.redn_check.specs.Rules.{number_faults}
-use Rattle.redn_check.proofs.Numbered.{none_met, none_unmet, none_loop, none_repeat, none_at, count_fits, probes_fit, nodes_fit, kernel_move, kernel_add, kernel_load, kernel_store, kernel_if, kernel_loop, kernel_repeat, kernel_break, kernel_lookup, kernel_walk, kernel_reply}
+use Rattle.redn_check.proofs.Numbered.{none_met, none_unmet, none_loop, none_repeat, none_at, count_fits, kernel_if, kernel_loop, kernel_repeat, kernel_reply}
 use Rattle.redn_check.proofs.Gathered.{in_body}
 use Rattle.redn_check.proofs.number.+number.Goals as goal
 
