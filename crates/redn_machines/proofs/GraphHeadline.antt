@@ -12,7 +12,6 @@ use Rattle.redn_kernel.specs.Source as source
 use Rattle.redn_kernel.specs.Source.{ChainState, source_start, fresh_chains, bytes_of, chain_runs}
 use Rattle.redn_graph.specs.declared.types.Graph.{Graph}
 use Rattle.redn_graph.specs.Run.{GraphState}
-use Rattle.redn_graph.specs.Follows.{Follows}
 use Rattle.redn_image.specs.Rules.{Image}
 use Rattle.redn_image.specs.Agreement.{Fits, HoldsVariables, variables_of}
 use Rattle.redn_image.specs.Faithful.{AreMessages, Faithful, start_of}
@@ -24,13 +23,6 @@ use Rattle.redn_chains.proofs.Headline.{compiled_is_faithful}
 use Rattle.redn_machines.specs.GraphMachines.{Followed, RunsGraph, words_in, here_of, kept_of, HasWords}
 use Rattle.redn_machines.proofs.GraphMachines.{here_vars, TranslatesOne, StandOne, graph_translates, graph_stands}
 use Rattle.redn_machines.specs.RingSides.{AllFollow, followed, or_none, message_at, first_tables, Graphed, RingSide}
-
--- it is enough to say it of each number
-pub all_follow : (cs : List ChainInit) (gs : List Graph) → length gs ≡ length cs → ((c : ℕ) (chain : ChainInit) (g : Graph) → slice_get cs c ≡ Some chain → slice_get gs c ≡ Some g → Follows chain g) → AllFollow cs gs
-all_follow [] [] same each = tt
-all_follow [] (g ∷ gs) same each = absurd (omega (arith, same))
-all_follow (c ∷ cs) [] same each = absurd (omega (arith, same))
-all_follow (c ∷ cs) (g ∷ gs) same each = (each 0 c g refl refl, all_follow cs gs (omega (arith, same)) (λ k chain graph there its. each (suc k) chain graph there its))
 
 -- a chain, with what stands at its number in each list
 record Chosen (cs : List ChainInit) (gs : List Graph) (all : List Followed) (messages : Messages) (c : ℕ) : Type 0 where
@@ -49,7 +41,7 @@ chosen (k ∷ cs) (g ∷ gs) h (m ∷ messages) are (suc c) l =
     let rest = chosen cs gs h.1 messages are.1 c (omega arith) in
     record { f = rest.f; chain = rest.chain; graph = rest.graph; there = rest.there; begins = rest.begins }
 
-one_each : (cs : List ChainInit) (messages : Messages) → AreMessages cs messages → length messages ≡ length cs
+pub one_each : (cs : List ChainInit) (messages : Messages) → AreMessages cs messages → length messages ≡ length cs
 one_each [] [] are = refl
 one_each [] (m ∷ messages) are = absurd are
 one_each (c ∷ cs) [] are = absurd are
@@ -60,17 +52,17 @@ fresh_length [] messages = refl
 fresh_length (c ∷ cs) [] = ap suc (fresh_length cs [])
 fresh_length (c ∷ cs) (m ∷ messages) = ap suc (fresh_length cs messages)
 
-message_first : (o : Option (Option (List ℕ))) → message_in (option_map fresh_chain o) ≡ or_none o
+pub message_first : (o : Option (Option (List ℕ))) → message_in (option_map fresh_chain o) ≡ or_none o
 message_first None = refl
 message_first (Some None) = refl
-message_first (Some (Some bytes)) = refl
+message_first (Some _) = refl
 
 module _ (i : Image) (messages : Messages) where
-  first_message : (c : ℕ) → message_in (slice_get (start_of i messages).chains c) ≡ message_at messages c
+  pub first_message : (c : ℕ) → message_in (slice_get (start_of i messages).chains c) ≡ message_at messages c
   unfolding start
   first_message c = ap message_in (slice_get-map fresh_chain messages c) ∙ message_first (slice_get messages c)
 
-  first_length : length (start_of i messages).chains ≡ length messages
+  pub first_length : length (start_of i messages).chains ≡ length messages
   unfolding start
   first_length = length-map messages fresh_chain
 

@@ -1,5 +1,5 @@
 -- A chain's graph as a machine, each of whose steps is some steps of the source chain.
-use Rattle.std.proofs.Common.{◌≡◌, ℕ, zero, suc, ◌+◌, ◌*◌, ◌≤◌, inl, inr, Bool, true, false, not, ◌&&◌, List, [], Option, Some, None, refl, sym, ap, subst, ◌∙◌, arith}
+use Rattle.std.proofs.Common.{◌≡◌, ℕ, zero, suc, ◌+◌, ◌≤◌, inl, inr, Bool, true, false, not, ◌&&◌, List, [], Option, Some, None, refl, sym, ap, subst, ◌∙◌, arith}
 use Rattle.std.specs.Prelude.{is_some}
 use Rattle.redn_words.specs.declared.types.Obs.{Obs}
 use Rattle.redn_words.specs.Runs.{shown_then}
@@ -9,10 +9,11 @@ use Rattle.redn_graph.specs.declared.types.Graph.{Graph}
 use Rattle.redn_graph.specs.Run.{GraphState, graph_step, graph_start}
 use Rattle.redn_kernel.specs.Steps.{Steps, unchanged, silently}
 use Rattle.redn_graph.specs.Follows.{turn_by, chain_start}
-use Rattle.redn_chains.specs.Machines.{Contents, Machine, Goes, AllGo, run_tables, run_state, run_events, run_cost}
+use Rattle.redn_chains.specs.Machines.{Contents, Machine, Goes, AllGo, run_tables, run_state, run_events}
 use Rattle.redn_chains.specs.Sources.{source_machine}
 use Rattle.redn_machines.specs.GraphMachines.{graph_machine, Followed, words_in, here_of, kept_of, HasWords, RunsGraph}
 use Rattle.redn_machines.proofs.Messages.{first_keeps}
+use Rattle.redn_chains.proofs.Sources.{source_cost as steps_pay}
 
 -- what steps of the source are for its machine
 pub record SourceGoes (c : ℕ) (t : Contents) (w : ChainState) (n : ℕ) (turn : Turn) : Type 0 where
@@ -50,12 +51,6 @@ steps_go c (suc n) t w turn (more, inr (shows, steps)) =
       state = rest.state;
       message = rest.message ∙ first_keeps c t w w.items;
     }
-
--- each step of the source pays 160
-steps_pay : (c n : ℕ) (t : Contents) (w : ChainState) → run_cost ChainState (source_machine c) n t w ≡ 160 * n
-unfolding source_machine
-steps_pay c zero t w = refl
-steps_pay c (suc n) t w = let rest = steps_pay c n (first_does c t w w.items).tables (first_does c t w w.items).chain in omega (arith, rest)
 
 pub here_vars : (o : Option Followed) (message : Option (List ℕ)) (x : GraphState) → (here_of o message x).vars ≡ x.cells.vars
 here_vars None message x = refl

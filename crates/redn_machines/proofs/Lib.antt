@@ -1,6 +1,6 @@
 pub mod Messages
 pub mod GraphMachines
 pub mod GraphHeadline
+pub mod GraphOrders
 pub mod SilentSteps
-pub mod SilentRuns
 mod WorkedGraphs

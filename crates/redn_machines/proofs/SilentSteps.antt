@@ -12,7 +12,7 @@ use Rattle.redn_graph.specs.declared.types.End.TheVariants.{Jump, Test48, Test64
 use Rattle.redn_graph.specs.declared.types.Block.{Block}
 use Rattle.redn_graph.specs.declared.types.Graph.{Graph}
 use Rattle.redn_kernel.specs.CoreRun.{Cells}
-use Rattle.redn_graph.specs.Run.{GraphState, GraphTurn, Effect, Way, On, Taking, To, Out, holds, effect, sets, goes, within, loads, instr_does, end_does, state_on, graph_turn, stays, instr_or_end, block_turn, graph_step}
+use Rattle.redn_graph.specs.Run.{GraphState, GraphTurn, Effect, Way, On, To, Out, holds, effect, sets, goes, within, loads, instr_does, end_does, state_on, graph_turn, stays, instr_or_end, block_turn, graph_step}
 use Rattle.redn_chains.specs.Machines.{Contents}
 
 -- what an effect under other tables is
@@ -24,15 +24,12 @@ record Quiet (t u : Contents) (s : Cells) (e d : Effect) : Type 0 where
 module _ (c : ℕ) (words : List ℕ) (t u : Contents) (s : Cells) where
   holds_same : (a : Cell) → holds c words u s a ≡ holds c words t s a
   holds_same (cell.Var x) = refl
-  holds_same (cell.Hidden k) = refl
-  holds_same (cell.Argument i) = refl
-  holds_same (cell.Num n) = refl
+  holds_same _ = refl
 
   sets_quiet : (to : Cell) (v w : ℕ) → w ≡ v → (sets c words t s to v).event ≡ shows.Nothing → Quiet t u s (sets c words t s to v) (sets c words u s to w)
   sets_quiet (cell.Var x) v w same silent = absurd (cc)
   sets_quiet (cell.Hidden k) v w same silent = record { tables = refl; again = ap (sets c words u s (cell.Hidden k)) same; vars = refl }
-  sets_quiet (cell.Argument i) v w same silent = record { tables = refl; again = refl; vars = refl }
-  sets_quiet (cell.Num n) v w same silent = record { tables = refl; again = refl; vars = refl }
+  sets_quiet _ v w same silent = record { tables = refl; again = refl; vars = refl }
 
   choice_shows : (there : Bool) (table o : ℕ) (e : Effect) → ((e.event ≡ shows.Nothing) → ⊥) → (if there then e else effect c words t s s Out (shows.Fault c table o)).event ≡ shows.Nothing → ⊥
   choice_shows true table o e tells silent = tells silent
@@ -43,9 +40,7 @@ module _ (c : ℕ) (words : List ℕ) (t u : Contents) (s : Cells) where
 
   loads_shows : (to : Cell) (table o : ℕ) (way : Way) → (loads c words t s to table o way).event ≡ shows.Nothing → ⊥
   loads_shows (cell.Var x) table o way = within_shows table o _ (λ silent. cc (silent))
-  loads_shows (cell.Hidden k) table o way = within_shows table o _ (λ silent. cc (silent))
-  loads_shows (cell.Argument i) table o way = within_shows table o _ (λ silent. cc (silent))
-  loads_shows (cell.Num n) table o way = within_shows table o _ (λ silent. cc (silent))
+  loads_shows _ table o way = within_shows table o _ (λ silent. cc (silent))
 
   instr_quiet : (i : Instr) → (instr_does c words t s i).event ≡ shows.Nothing → Quiet t u s (instr_does c words t s i) (instr_does c words u s i)
   unfolding instr_does
@@ -78,9 +73,7 @@ module _ (c : ℕ) (words : List ℕ) (t u : Contents) (s : Cells) where
 
 cells_on : (x : GraphState) (s : Cells) (way : Way) → (state_on x s way).cells ≡ s
 cells_on x s On = refl
-cells_on x s Taking = refl
-cells_on x s (To block) = refl
-cells_on x s Out = refl
+cells_on x s _ = refl
 
 -- a silent step under t, and the same under u
 pub record SilentTurn (t u : Contents) (x : GraphState) (turn other : GraphTurn) : Type 0 where

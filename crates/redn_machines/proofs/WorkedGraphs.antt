@@ -1,5 +1,5 @@
 -- The two chains once more, with the graphs of their programs.
-use Rattle.std.proofs.Common.{◌≡◌, ℕ, zero, suc, ◌+◌, ◌*◌, ◌<◌, ◌≤◌, inr, Bool, true, false, List, [], ◌∷◌, Option, Some, length, refl, sym, ap, subst, ◌∙◌, arith}
+use Rattle.std.proofs.Common.{◌≡◌, ℕ, zero, suc, ◌+◌, ◌*◌, ◌<◌, ◌≤◌, inr, Bool, true, false, List, [], ◌∷◌, Option, Some, None, length, refl, sym, ap, subst, ◌∙◌, arith}
 use Rattle.std.specs.Prelude.{slice_get, nat_le}
 use Rattle.std.proofs.lemmas.Bool.{true≢false}
 use Rattle.std.proofs.lemmas.Bool.Decides.{nat_tests}
@@ -23,7 +23,9 @@ use Rattle.redn_image.specs.Faithful.{AreMessages, Faithful}
 use Rattle.redn_chains.specs.Machines.{Contents}
 use Rattle.redn_machines.specs.GraphMachines.{RunsGraph, words_in}
 use Rattle.redn_machines.specs.RingSides.{AllFollow, Graphed, RingSide, message_at}
+use Rattle.redn_machines.specs.FaithfulToGraphs.{FaithfulToGraphs, costs_from, graphs_begin, woken}
 use Rattle.redn_machines.proofs.GraphHeadline.{graphs_are_faithful}
+use Rattle.redn_machines.proofs.GraphOrders.{faithful_to_graphs}
 use Rattle.redn_chains.proofs.WorkedWorld.{Messages, pick, world, step, cost, both, first_state, two_chains, machines, machines_begin}
 use Rattle.redn_chains.proofs.WorkedFaithful.{stores, replies, says, two_program, two_image, two_fits, are_short, tables_agree, first_is}
 
@@ -239,3 +241,24 @@ ring_sides (a ∷ b ∷ d ∷ messages) are = absurd are.1.1
 
 two_graphs_are_faithful : Faithful two_program two_image
 two_graphs_are_faithful = graphs_are_faithful two_program two_image graphs graphed all_follow_them two_fits ring_sides
+
+two_are_faithful_to_graphs : FaithfulToGraphs two_program graphs two_image
+unfolding two_program
+two_are_faithful_to_graphs = faithful_to_graphs two_program two_image graphs graphed refl two_fits ring_sides
+
+-- only the first chain has a message
+abbrev first_alone : Messages
+first_alone = Some [] ∷ None ∷ []
+
+-- it may run, and the other may not
+first_runs : (woken two_program graphs first_alone 0 ≡ true) × (woken two_program graphs first_alone 1 ≡ false)
+first_runs = (refl, refl)
+
+-- its first step costs 32 and its second 48
+costs_first : costs_from two_program graphs first_alone 0 (graphs_begin two_program graphs first_alone) [] ≡ 32
+unfolding two_program step_cost instr_cost
+costs_first = refl
+
+costs_other : costs_from two_program graphs first_alone 1 (graphs_begin two_program graphs first_alone) (0 ∷ []) ≡ 32
+unfolding two_program step_cost instr_cost graph_step instr_does
+costs_other = refl

@@ -16,7 +16,8 @@ AllRingSides p i gs graphed = (messages : Messages) → AreMessages p.chains mes
 
 -- a graph is a machine that runs as the graph does
 abbrev pub GraphsRunThemselves : Type 0
-GraphsRunThemselves = (c : ℕ) (words : List ℕ) (g : Graph) (vars : List ℕ) → RunsGraph GraphState (graph_machine c words g) (graph_start g vars) (λ x. x) c words g vars
+GraphsRunThemselves = (c : ℕ) (words : List ℕ) (g : Graph) (vars : List ℕ)
+    → RunsGraph GraphState (graph_machine c words g) (graph_start g vars) (λ x. x) c words g vars
 
 -- a step of a graph that shows nothing is the same step on any tables, and changes neither them nor a variable
 pub record IsSilent (c : ℕ) (words : List ℕ) (g : Graph) (t u : List (List ℕ)) (x : GraphState) : Type 0 where
@@ -25,4 +26,5 @@ pub record IsSilent (c : ℕ) (words : List ℕ) (g : Graph) (t u : List (List �
   pub vars : (graph_step c words t x g).state.cells.vars ≡ x.cells.vars
 
 abbrev pub SilentAnywhere : Type 0
-SilentAnywhere = (c : ℕ) (words : List ℕ) (g : Graph) (t u : List (List ℕ)) (x : GraphState) → (graph_step c words t x g).event ≡ shows.Nothing → IsSilent c words g t u x
+SilentAnywhere = (c : ℕ) (words : List ℕ) (g : Graph) (t u : List (List ℕ)) (x : GraphState) → (graph_step c words t x g).event ≡ shows.Nothing
+    → IsSilent c words g t u x

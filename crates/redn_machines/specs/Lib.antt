@@ -1,3 +1,4 @@
 pub mod GraphMachines
 pub mod RingSides
+pub mod FaithfulToGraphs
 pub mod Laws

@@ -54,5 +54,7 @@ pub record RingSide (p : Program) (i : Image) (gs : List Graph) (messages : Mess
   pub promises : AllPromise graphed.world
   pub runs_graph : (c : ℕ) (chain : ChainInit) (g : Graph) → slice_get p.chains c ≡ Some chain → slice_get gs c ≡ Some g → RunsGraph graphed.world.M (graphed.world.form c).machine (graphed.world.form c).begin (graphed.as_graph c) c (words_in chain (message_at messages c)) g chain.vars
   pub has_tables : graphed.world.Tables (first_tables p) graphed.world.begin.memory
-  pub tables : (t : Contents) (m : List ℕ) (n : ℕ) → graphed.world.Tables t m → All (λ (r : Region). bytes_at m r.base r.len ≡ bytes_of t n) (places_of n graphed.world.begin.regions)
-  pub variables : (c : ℕ) (y : graphed.world.M) (m : List ℕ) → c < chains_of graphed.world → (graphed.world.form c).Holds y m → All (HoldsVariables m (graphed.as_graph c y).cells.vars) (variables_of c graphed.world.begin.regions)
+  pub tables : (t : Contents) (m : List ℕ) (n : ℕ) → graphed.world.Tables t m
+      → All (λ (r : Region). bytes_at m r.base r.len ≡ bytes_of t n) (places_of n graphed.world.begin.regions)
+  pub variables : (c : ℕ) (y : graphed.world.M) (m : List ℕ) → c < chains_of graphed.world → (graphed.world.form c).Holds y m
+      → All (HoldsVariables m (graphed.as_graph c y).cells.vars) (variables_of c graphed.world.begin.regions)

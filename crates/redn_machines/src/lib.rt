@@ -1,5 +1,6 @@
-//! The graphs of a program's chains as the machines of its compiled form: rings that run as the
-//! graphs do have nothing to say of the source.
+//! The graphs of a program's chains as the machines of its compiled form.
+//! The law: a graph is a machine, whose silent steps see no table. An image whose rings run as the
+//! graphs do does what its program says, where each graph follows its chain.
 #![tactic(auto)]
 
 mod laws;

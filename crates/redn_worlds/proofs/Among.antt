@@ -2,7 +2,7 @@
 use Rattle.std.proofs.Common.{◌≡◌, ℕ, ◌+◌, ◌*◌, ◌<◌, inl, Bool, true, false, List, [], ◌∷◌, length, get_or, Option, Some, None, refl, sym, ap, ◌∙◌, subst, arith}
 use Rattle.std.specs.Prelude.{slice_get, nat_le, nat_lt}
 use Rattle.std.specs.Option.{option_map}
-use Rattle.std.proofs.lemmas.Bool.{and_parts, leb-true, ltb-true, true≢false}
+use Rattle.std.proofs.lemmas.Bool.{and_parts, leb-true, ltb-true, true≢false, false_from_ne_true as none_if}
 use Rattle.std.proofs.lemmas.List.{length-map}
 use Rattle.std.proofs.lemmas.Option.{slice_get-map, slice_get-get_or}
 use Rattle.redn_words.specs.declared.types.Region.{Region}
@@ -14,7 +14,7 @@ use Rattle.redn_words.specs.Words.{bytes_at}
 use Rattle.redn_words.specs.Landings.{change}
 use Rattle.redn_words.specs.Ranges.{domain_holds}
 use Rattle.redn_words.specs.States.{State, Queue, Chain, fresh_queue, fresh_chain}
-use Rattle.redn_words.proofs.Bytes.{byte, covers, hits}
+use Rattle.redn_words.specs.Bytes.{byte, covers, hits}
 use Rattle.redn_words.proofs.Copies.{get_empty}
 use Rattle.redn_kernel.specs.declared.types.ChainInit.{ChainInit}
 use Rattle.redn_kernel.specs.declared.types.Program.{Program}
@@ -48,11 +48,11 @@ use Rattle.redn_worlds.specs.Chains.{plan_at, init_at, graph_at, entry_of, AllHa
 use Rattle.redn_worlds.specs.Laws.{HasNumbers}
 use Rattle.redn_worlds.proofs.Its.{Its, its}
 use Rattle.redn_worlds.proofs.Rings.{is_formed}
-use Rattle.redn_worlds.proofs.Shelves.{none_if, shelves_apart, own_unshared, tables_named}
-use Rattle.redn_worlds.proofs.Mail.{one_each}
+use Rattle.redn_worlds.proofs.Shelves.{shelves_apart, own_unshared, tables_named}
 use Rattle.redn_worlds.proofs.Start.{Starts, starts, message_is, after, after_stays, mail, mail_fits, entry_below}
 use Rattle.redn_worlds.proofs.Prepared.{ready, value_small, variable_after, variable_first}
 use Rattle.redn_worlds.proofs.Entries.{entry_slots, waits_for, opens_it, orderly, waits, enables, no_ring, entry_own}
+use Rattle.redn_machines.proofs.GraphHeadline.{one_each}
 
 module _ (p : Program) (graphs : List Graph) (are : AreSound p graphs) (numbers : HasNumbers p) (image : Image) (is : IsPlaced p graphs image) (all : AllHaveEntries p graphs) (messages : Messages) (sent : AreMessages p.chains messages) where
   abbrev T : Together

@@ -1,14 +1,15 @@
 -- The entry of each chain: a WAIT for its message and an ENABLE, in slots that nothing writes.
 use Rattle.std.proofs.Common.{◌≡◌, ℕ, zero, suc, ◌+◌, ◌-◌, ◌*◌, ◌%◌, ◌^◌, ◌<◌, ◌≤◌, ◌⊎◌, inl, inr, true, false, List, [], ◌++◌, length, refl, sym, ap, ◌∙◌, arith, append-nil}
 use Rattle.std.specs.Prelude.{nat_le, nat_lt}
-use Rattle.std.proofs.lemmas.Bool.{and_parts, ltb-true}
+use Rattle.std.proofs.lemmas.Bool.{and_parts, ltb-true, false_from_ne_true as none_if}
 use Rattle.redn_words.specs.declared.types.Class.TheVariants as ask
 use Rattle.redn_words.specs.declared.limits.TheConstants.{RECEIVE_BASE}
 use Rattle.redn_words.specs.Words.{bytes_at}
 use Rattle.redn_words.specs.Requests.{opcode_named}
 use Rattle.redn_words.specs.States.{slot_of}
 use Rattle.redn_words.specs.Steps.{class_of}
-use Rattle.redn_words.proofs.Slots.{IsNarrow, length-encoded, decoded-encoded, bytes_at_append}
+use Rattle.redn_words.proofs.Slots.{length-encoded, decoded-encoded, bytes_at_append}
+use Rattle.redn_words.specs.Slots.{IsNarrow}
 use Rattle.redn_kernel.specs.declared.types.ChainInit.{ChainInit}
 use Rattle.redn_kernel.specs.declared.types.Program.{Program}
 use Rattle.redn_graph.specs.declared.types.Graph.{Graph}
@@ -27,7 +28,6 @@ use Rattle.redn_placed.proofs.Queues.{stand, entered}
 use Rattle.redn_placed.proofs.Whole.{placed}
 use Rattle.redn_worlds.specs.Chains.{entry_of}
 use Rattle.redn_worlds.proofs.Its.{Its}
-use Rattle.redn_worlds.proofs.Shelves.{none_if}
 use Rattle.redn_worlds.proofs.Rings.{is_formed}
 
 -- small operands are read back

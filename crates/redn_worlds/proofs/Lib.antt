@@ -10,4 +10,5 @@ pub mod Named
 pub mod RegionRows
 pub mod Fits
 pub mod Sides
+pub mod Orders
 mod Worked

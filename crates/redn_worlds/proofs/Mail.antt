@@ -1,12 +1,13 @@
 -- A message in memory: its words, and that all other bytes stay.
 use Rattle.std.proofs.Common.{◌≡◌, ℕ, zero, suc, ◌+◌, ◌*◌, ◌<◌, ◌≤◌, ◌⊎◌, inl, inr, false, List, [], ◌∷◌, length, Option, Some, None, refl, sym, ap, ◌∙◌, subst, arith}
 use Rattle.std.specs.Prelude.{slice_get, slice_index, nat_le, nat_lt}
-use Rattle.std.proofs.lemmas.Bool.{and_parts, leb-true, ltb-true}
+use Rattle.std.proofs.lemmas.Bool.{and_parts, leb-true, ltb-true, false_from_ne_true as none_if}
 use Rattle.redn_words.specs.declared.types.Receive.{Receive}
 use Rattle.redn_words.specs.Words.{bytes_at, word, with_bytes_at}
 use Rattle.redn_words.specs.Landings.{change}
 use Rattle.redn_words.specs.Arguments.{argument_words}
-use Rattle.redn_words.proofs.Bytes.{byte, covers, byte_put, same_range}
+use Rattle.redn_words.proofs.Bytes.{byte_put, same_range}
+use Rattle.redn_words.specs.Bytes.{byte, covers}
 use Rattle.redn_words.proofs.Numbers.{number-bytes_at}
 use Rattle.redn_words.proofs.Places.{length-with_bytes_at, bytes_at-same}
 use Rattle.redn_homes.proofs.Sided.{bytes_at-within}
@@ -15,7 +16,6 @@ use Rattle.redn_image.specs.Faithful.{IsMessageOf, AreMessages}
 use Rattle.redn_chains.specs.Forms.{with_message}
 use Rattle.redn_chains.specs.Compiled.{Messages}
 use Rattle.redn_machines.specs.RingSides.{message_at}
-use Rattle.redn_worlds.proofs.Shelves.{none_if}
 
 -- the message of each chain is one of its length
 pub message_of : (cs : List ChainInit) (messages : Messages) → AreMessages cs messages → (i : ℕ) (c : ChainInit) → slice_get cs i ≡ Some c → IsMessageOf c (message_at messages i)
@@ -23,12 +23,6 @@ message_of [] messages are i c e = absurd (cc)
 message_of (x ∷ cs) [] are i c e = absurd are
 message_of (x ∷ cs) (m ∷ messages) are zero c e = let same : x ≡ c = cc in subst (λ (y : ChainInit). IsMessageOf y m) same are.0
 message_of (x ∷ cs) (m ∷ messages) are (suc i) c e = message_of cs messages are.1 i c e
-
-pub one_each : (cs : List ChainInit) (messages : Messages) → AreMessages cs messages → length messages ≡ length cs
-one_each [] [] are = refl
-one_each [] (m ∷ messages) are = absurd are
-one_each (c ∷ cs) [] are = absurd are
-one_each (c ∷ cs) (m ∷ messages) are = ap suc (one_each cs messages are.1)
 
 -- a byte outside of a range is not hit by a change there
 pub missed : (at q : ℕ) (bytes : List ℕ) → (q < at) ⊎ (at + length bytes ≤ q) → covers (change at bytes) q ≡ false

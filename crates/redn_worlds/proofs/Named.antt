@@ -1,24 +1,16 @@
 -- Sound statements name tables that there are.
-use Rattle.std.proofs.Common.{◌≡◌, ℕ, ◌<◌, Bool, true, false, ◌||◌, ◌==◌, List, [], ◌∷◌, length, map, Option, Some, None, refl, sym, ap, ◌∙◌, subst, arith}
-use Rattle.std.specs.Prelude.{slice_get}
+use Rattle.std.proofs.Common.{◌≡◌, ℕ, ◌<◌, Bool, true, false, ◌||◌, ◌==◌, List, [], ◌∷◌, length, map, refl, sym, ap, ◌∙◌, subst, arith}
 use Rattle.std.specs.List.{All, list_any}
 use Rattle.std.proofs.lemmas.Bool.{false≢true, eqb-true}
 use Rattle.std.proofs.lemmas.List.Elements.{All-head, All-tail}
-use Rattle.std.proofs.lemmas.Option.{slice_get_within}
 use Rattle.redn_kernel.specs.declared.types.TableInit.{TableInit}
 use Rattle.redn_kernel.specs.declared.types.ChainInit.{ChainInit}
 use Rattle.redn_kernel.specs.declared.types.Kernel.{Kernel, roll-Kernel, out-roll-Kernel, map-Kernel, fold-Kernel, fold-roll-Kernel, every-Kernel, every_here-Kernel, ind-Kernel}
 use Rattle.redn_kernel.specs.declared.types.Kernel.TheOpen.{Kernel-F}
-use Rattle.redn_kernel.specs.Program.{is_writable, IsSoundStatement}
+use Rattle.redn_kernel.specs.Program.{IsSoundStatement}
 use Rattle.redn_image.specs.Agreement.{names_by, names_table}
 use Rattle.redn_graph.proofs.Fits.{blocks_well}
-
-writable_there : (tables : List TableInit) (t : ℕ) → is_writable (slice_get tables t) ≡ true → t < length tables
-writable_there tables t e = by_item (slice_get tables t) refl e
-  where
-    by_item : (o : Option TableInit) → slice_get tables t ≡ o → is_writable o ≡ true → t < length tables
-    by_item None f e = absurd (false≢true e)
-    by_item (Some x) f e = slice_get_within tables t x f
+use Rattle.redn_placed.proofs.Named.{writable_there}
 
 either : (a b : Bool) (P : Type 0) → (a || b) ≡ true → (a ≡ true → P) → (b ≡ true → P) → P
 either true b P e f g = f refl

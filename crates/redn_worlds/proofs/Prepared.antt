@@ -7,8 +7,7 @@ use Rattle.redn_words.specs.declared.types.Request.{Request}
 use Rattle.redn_words.specs.Words.{bytes_at, with_bytes_at, word, number, spelled}
 use Rattle.redn_words.specs.Arguments.{argument_words}
 use Rattle.redn_words.specs.Requests.{encoded}
-use Rattle.redn_words.proofs.Bytes.{byte}
-use Rattle.redn_words.proofs.Numbers.{number-spelled}
+use Rattle.redn_words.specs.Bytes.{byte}
 use Rattle.redn_words.proofs.Slots.{length-encoded}
 use Rattle.redn_kernel.specs.declared.types.Cell.{Cell}
 use Rattle.redn_kernel.specs.declared.types.Cell.TheVariants.{Var, Hidden, Argument, Num}
@@ -57,13 +56,11 @@ use Rattle.redn_worlds.proofs.Mail.{mail_word, argument_word}
 use Rattle.redn_worlds.proofs.Start.{after, after_size, after_space, mail, mail_fits, seen_after, seen_first}
 use Rattle.redn_worlds.proofs.Rings.{is_laying, is_formed}
 use Rattle.redn_forms.specs.Together.{first_point}
+use Rattle.redn_block.proofs.Spelled.{word_spelled as word-spelled}
 
 ready_as : (written : ℕ → Bool) (r : Request) (slot : List ℕ) → slot ≡ encoded r → IsReady written r slot
 ready_as written r slot e =
     record { len = ap length e ∙ length-encoded r; bytes = λ i l none. ap (λ (x : List ℕ). slice_index x i) e }
-
-word-spelled : (v : ℕ) → v < 2 ^ 64 → word (spelled 8 v) 0 ≡ v
-word-spelled v small = number-spelled 8 v (omega (arith, small))
 
 word-zeros : word (replicate 8 0) 0 ≡ 0
 unfolding number

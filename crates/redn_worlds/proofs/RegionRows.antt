@@ -16,11 +16,6 @@ use Rattle.redn_placed.specs.Laws.{AreSound}
 use Rattle.redn_placed.proofs.Keys.{among_flat, among_tail}
 use Rattle.redn_placed.proofs.Beside.{chains_lie_apart}
 
--- lists by parts
-all_from : {X : Type 0} (P : X → Type 0) (xs : List X) → ((k : ℕ) (x : X) → slice_get xs k ≡ Some x → P x) → All P xs
-all_from P [] h = All-nil P
-all_from P (x ∷ xs) h = All-cons P x xs (h 0 x refl) (all_from P xs (λ k y e. h (suc k) y e))
-
 all_mapped : {X Y : Type 0} (P : Y → Type 0) (f : X → Y) (xs : List X) → ((k : ℕ) (x : X) → slice_get xs k ≡ Some x → P (f x)) → All P (map f xs)
 all_mapped P f [] h = All-nil P
 all_mapped P f (x ∷ xs) h = All-cons P (f x) (map f xs) (h 0 x refl) (all_mapped P f xs (λ k y e. h (suc k) y e))

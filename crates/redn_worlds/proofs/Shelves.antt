@@ -2,7 +2,7 @@
 use Rattle.std.proofs.Common.{◌≡◌, ℕ, zero, suc, ◌+◌, ◌<◌, inl, inr, Bool, true, false, List, [], length, Some, refl, sym, ap, ◌∙◌, arith}
 use Rattle.std.specs.Prelude.{slice_get}
 use Rattle.std.specs.List.{list_any, range_with_len}
-use Rattle.std.proofs.lemmas.Bool.{true≢false, cases_lt, ltb-true}
+use Rattle.std.proofs.lemmas.Bool.{true≢false, cases_lt, ltb-true, false_from_ne_true as none_if}
 use Rattle.std.proofs.lemmas.List.{length-map}
 use Rattle.std.proofs.lemmas.Option.{slice_get-get_or, get_or_from_slice_get}
 use Rattle.redn_words.specs.declared.types.Region.{Region}
@@ -31,10 +31,6 @@ use Rattle.redn_worlds.proofs.Its.{Its}
 none_in : (test : ℕ → Bool) (a n : ℕ) → ((k : ℕ) → k < a + n → test k ≡ false) → list_any test (range_with_len a n) ≡ false
 none_in test a zero h = refl
 none_in test a (suc n) h = let here = h a (omega arith) in rw here (none_in test (a + 1) n (λ k l. h k (omega (arith, l))))
-
-pub none_if : (b : Bool) → (b ≡ true → ⊥) → b ≡ false
-none_if true f = absurd (f refl)
-none_if false f = refl
 
 module _ (p : Program) (graphs : List Graph) where
   pub table_there : (k : ℕ) → k < length p.tables → slice_get (tables p graphs) k ≡ Some (table_at p graphs k)

@@ -1,12 +1,12 @@
 -- The first state of a placed image with its messages, and what memory holds there for each chain.
-use Rattle.std.proofs.Common.{◌≡◌, ◌≢◌, ℕ, suc, ◌+◌, ◌-◌, ◌*◌, ◌≤◌, ◌⊎◌, inl, inr, true, false, List, length, map, Option, Some, None, refl, ap, ◌∙◌, arith}
+use Rattle.std.proofs.Common.{◌≡◌, ◌≢◌, ℕ, suc, ◌+◌, ◌-◌, ◌*◌, ◌≤◌, ◌⊎◌, inl, inr, true, false, List, length, map, Some, refl, ap, ◌∙◌, arith}
 use Rattle.std.specs.Prelude.{slice_get}
-use Rattle.std.specs.Option.{option_map}
 use Rattle.std.proofs.lemmas.Bool.{cases_lt}
 use Rattle.std.proofs.lemmas.Option.{slice_get-map}
 use Rattle.redn_words.specs.Words.{bytes_at}
 use Rattle.redn_words.specs.States.{State, Chain, start, fresh_queue, fresh_chain}
-use Rattle.redn_words.proofs.Bytes.{byte, same_range}
+use Rattle.redn_words.proofs.Bytes.{same_range}
+use Rattle.redn_words.specs.Bytes.{byte}
 use Rattle.redn_kernel.specs.declared.types.ChainInit.{ChainInit}
 use Rattle.redn_kernel.specs.declared.types.Program.{Program}
 use Rattle.redn_graph.specs.declared.types.Graph.{Graph}
@@ -28,14 +28,10 @@ use Rattle.redn_placed.proofs.Lengths.{size_is}
 use Rattle.redn_placed.proofs.Whole.{placed, stands, above}
 use Rattle.redn_chains.specs.Forms.{message_in, with_message}
 use Rattle.redn_chains.specs.Compiled.{Messages}
-use Rattle.redn_machines.specs.RingSides.{or_none, message_at}
+use Rattle.redn_machines.specs.RingSides.{message_at}
 use Rattle.redn_worlds.proofs.Its.{Its}
 use Rattle.redn_worlds.proofs.Mail.{message_of, mail_size, range_stays}
-
-message_first : (o : Option (Option (List ℕ))) → message_in (option_map fresh_chain o) ≡ or_none o
-message_first None = refl
-message_first (Some None) = refl
-message_first (Some (Some bytes)) = refl
+use Rattle.redn_machines.proofs.GraphHeadline.{message_first}
 
 -- the parts of the first state
 pub record Starts (p : Program) (graphs : List Graph) (messages : Messages) (s : State) : Type 0 where

@@ -24,7 +24,20 @@ use Rattle.redn_forms.specs.Together.{Shelves, Begun, Together}
 -- a chain that stands nowhere
 abbrev pub no_plan : ChainPlan
 no_plan =
-    record { number = 0; tables = 0; vars = 0; values = []; args = 0; hidden = 0; entry = 0; first = 0; rings = record { number = 0; segments = [] ∷ [] } ∷ []; constants = []; code_base = 0; control_base = 0 }
+    record {
+      number = 0;
+      tables = 0;
+      vars = 0;
+      values = [];
+      args = 0;
+      hidden = 0;
+      entry = 0;
+      first = 0;
+      rings = record { number = 0; segments = [] ∷ [] } ∷ [];
+      constants = [];
+      code_base = 0;
+      control_base = 0;
+    }
 
 abbrev pub no_chain : ChainInit
 no_chain = record { args = 0; vars = []; body = [] }

@@ -11,6 +11,7 @@ use Rattle.redn_image.specs.Faithful.{AreMessages, Faithful}
 use Rattle.redn_emit.specs.Placed.{IsPlaced}
 use Rattle.redn_placed.specs.Laws.{AreSound}
 use Rattle.redn_chains.specs.Compiled.{Messages}
+use Rattle.redn_machines.specs.FaithfulToGraphs.{FaithfulToGraphs}
 use Rattle.redn_machines.specs.RingSides.{AllFollow}
 use Rattle.redn_forms.specs.Sides.{IsImage}
 use Rattle.redn_worlds.specs.Chains.{AllHaveEntries, together}
@@ -31,9 +32,15 @@ EmittedHaveEntries = (p : Program) (graphs : List Graph) → AreSound p graphs �
 -- and whatever the messages, its chains stand side by side as rings of their graphs
 abbrev pub EmittedStandTogether : Type 0
 EmittedStandTogether =
-    (p : Program) (graphs : List Graph) (i : Image) → AreSound p graphs → HasNumbers p → IsPlaced p graphs i → (entries : AllHaveEntries p graphs) (messages : Messages) → AreMessages p.chains messages → IsImage p i graphs messages (together p graphs i entries messages)
+    (p : Program) (graphs : List Graph) (i : Image) → AreSound p graphs → HasNumbers p → IsPlaced p graphs i
+    → (entries : AllHaveEntries p graphs) (messages : Messages) → AreMessages p.chains messages
+    → IsImage p i graphs messages (together p graphs i entries messages)
 
--- so where each graph follows its chain, the image does what the program says
+-- so the image does what its graphs do
+abbrev pub EmittedAreFaithfulToGraphs : Type 0
+EmittedAreFaithfulToGraphs = (p : Program) (graphs : List Graph) (i : Image) → AreSound p graphs → HasNumbers p → IsPlaced p graphs i → FaithfulToGraphs p graphs i
+
+-- and where each graph follows its chain, the image does what the program says
 abbrev pub EmittedAreFaithful : Type 0
 EmittedAreFaithful =
     (p : Program) (graphs : List Graph) (i : Image) → AreSound p graphs → HasNumbers p → AllFollow p.chains graphs → IsPlaced p graphs i → Faithful p i
