@@ -1,11 +1,11 @@
 -- Examples typed by hand: a command whose options stand between its words, and one without options.
 use Rattle.std.proofs.Common.{arith, ◌≡◌, ℕ, List, [], ◌∷◌, refl, lit<}
-use Rattle.std.specs.Prelude.{codes, Some}
+use Rattle.std.specs.Prelude.{codes, Some, None}
 use Rattle.std.specs.Fmt.{digits}
 use Rattle.std.proofs.lemmas.List.Elements.{All-cons, All-nil}
 use Rattle.redn_command.specs.declared.line.Choice.{Choice}
 use Rattle.redn_command.specs.declared.line.Choice.TheVariants as choice
-use Rattle.redn_command.specs.Words.{Command, Compile, Go, Fair, MessageWord, Part, AnOption, APosition, IsPart, HasSmallChain, IsCommand, line_of}
+use Rattle.redn_command.specs.Words.{Command, Compile, Go, Fair, MessageWord, Part, AnOption, APosition, IsPart, HasSmallChain, IsCommand, line_of, most_steps}
 
 word : ℕ → List ℕ → MessageWord
 word chain hex = record { chain = chain; digits = hex }
@@ -80,3 +80,7 @@ compile_words = record {
 -- a name doesn't begin as an option does
 no_option : ¬ IsPart (APosition (codes "-e"))
 no_option is = is refl
+
+-- how many steps a run may make, without a record and with one
+the_limits : (most_steps None ≡ 4000000) × (most_steps (Some (codes "r")) ≡ 500000)
+the_limits = (refl, refl)

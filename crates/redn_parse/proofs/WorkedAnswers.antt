@@ -1,25 +1,29 @@
 -- What readings and answers say, on concrete values.
-use Rattle.std.proofs.Common.{arith, ◌≡◌, ◌+◌, ℕ, zero, suc, cond, List, [], ◌∷◌, ◌++◌, codes, count_by, take, sym, refl, ap, subst, ◌∙◌, Ok, Err}
+use Rattle.std.proofs.Common.{arith, ◌≡◌, ◌+◌, ℕ, zero, suc, cond, List, [], ◌∷◌, ◌++◌, codes, count_by, take, sym, refl, ap, subst, ◌∙◌, Some, Ok, Err}
 use Rattle.std.proofs.lemmas.List.Sums.{sum_by-append, sum_by-cons}
 use Rattle.redn_syntax.specs.declared.token.Token.{Token}
 use Rattle.redn_syntax.specs.declared.token.TokenKind.{TokenKind}
 use Rattle.redn_syntax.specs.declared.token.TokenKind.TheVariants as k
+use Rattle.redn_syntax.specs.declared.tree.Chain.{Chain}
 use Rattle.redn_syntax.specs.declared.tree.File.{File}
 use Rattle.redn_syntax.specs.declared.tree.Stmt.{Stmt}
 use Rattle.redn_syntax.specs.declared.tree.StmtKind.TheVariants as s
-use Rattle.redn_syntax.specs.Lexemes.{Lexeme, Fixed, lexemes_of}
+use Rattle.redn_syntax.specs.declared.tree.StmtKind.TheOpen.{StmtKind-F}
+use Rattle.redn_syntax.specs.Lexemes.{Lexeme, Fixed, Named, lexemes_of}
 use Rattle.redn_syntax.specs.Grammar as g
-use Rattle.redn_syntax.specs.Grammar.{SamePlace, HasTree, IsViable}
-use Rattle.redn_syntax.proofs.Worked.{name, least_text, least_tokens, least_viable, least_tree, least_read, semicolon_first}
+use Rattle.redn_syntax.specs.Grammar.{◌>>◌, SamePlace, HasTree, IsViable}
+use Rattle.redn_syntax.proofs.Worked.{name, least_text, least_tokens, least_viable, least_chain, least_tree, least_read, leave_text, leave_tokens, semicolon_first}
 use Rattle.redn_parse.specs.Lookahead.{kind_at}
 use Rattle.redn_parse.specs.Depth.{is_opening, OpensDeep}
-use Rattle.redn_parse.specs.Reads.{Begins, IsStuck, IsStuckWithin, IsBlocked, IsFault, IsSole, ReadsAll, ReadsAs, ReadsWithin, statement, otherwise, unless}
+use Rattle.redn_parse.specs.Reads.{Begins, IsStuck, IsStuckWithin, IsBlocked, IsFault, IsSole, ReadsAll, ReadsAs, ReadsForm, ReadsWithin, chains, plain_form, some_chains, statement, otherwise, unless}
 use Rattle.redn_parse.specs.declared.reader.Stop.TheVariants.{Unexpected, Deep}
 use Rattle.redn_parse.specs.Answers.{AreViable, IsUnexpected, IsTooDeep}
 use Rattle.redn_parse.proofs.Samples as a
 use Rattle.redn_parse.proofs.Passed.{alike_kind}
 use Rattle.redn_parse.proofs.Braces.{opens_nowhere}
 use Rattle.redn_parse.proofs.Blocks.{block_blocked}
+use Rattle.redn_parse.proofs.Forms.{read_at}
+use Rattle.redn_parse.proofs.Plain.{a_break}
 use Rattle.redn_parse.proofs.Nested.{a_loop, left_out_sole}
 
 -- ---- readings
@@ -82,6 +86,88 @@ no_name_within = record { stuck = no_name; calm = λ at o. no_brace at o.before 
 -- no arguments before a brace that closes
 pub no_arguments : ReadsAll (g.argument SamePlace) k.Arg (Fixed k.CloseBrace 7 ∷ []) (Fixed k.CloseBrace 7 ∷ []) (Ok [])
 no_arguments = (Fixed k.CloseBrace 7 ∷ [], refl, (refl, λ e. cc))
+
+-- `arg a;` and a brace: one argument
+pub one_argument : ReadsAll (g.argument SamePlace) k.Arg (Fixed k.Arg 3 ∷ Named (codes "a") 7 ∷ Fixed k.Semicolon 8 ∷ Fixed k.CloseBrace 9 ∷ []) (Fixed k.CloseBrace 9 ∷ []) (Ok (name (codes "a") 7 ∷ []))
+one_argument = (_, (_, (_, (3, refl), (_, (7, refl, refl), (8, refl))), refl), (refl, λ e. cc))
+
+-- not the end of the list while another comes
+pub another_argument : ReadsAll (g.argument SamePlace) k.Arg (Fixed k.Arg 3 ∷ []) (Fixed k.Arg 3 ∷ []) (Ok []) → ⊥
+another_argument h = h.2.1 (ap (kind_at 0) (sym h.1))
+
+-- ---- chains
+
+abbrev pub empty_chain : ℕ → List ℕ → Chain
+empty_chain at text = record { name = name text (at + 6); args = []; vars = []; body = []; close = at + 8 }
+
+abbrev pub its_lexemes : ℕ → List ℕ → List Lexeme
+its_lexemes at text = Fixed k.Chain at ∷ Named text (at + 6) ∷ Fixed k.OpenBrace (at + 7) ∷ Fixed k.CloseBrace (at + 8) ∷ []
+
+-- `chain c{}`, also where no block may be nested
+pub chain_read : (room at : ℕ) (text : List ℕ) (after : List Lexeme) → g.chain_within SamePlace room (empty_chain at text) (its_lexemes at text ++ after) after
+chain_read room at text after = (_, (at, refl), (_, (at + 6, refl, refl), (_, (at + 7, refl), (_, refl, (_, refl, (_, refl, (at + 8, refl, refl)))))))
+
+pub chain_within : ReadsWithin (g.chain_within SamePlace) g.nothing 64 0 (its_lexemes 0 (codes "c")) [] (Ok (empty_chain 0 (codes "c")))
+chain_within = chain_read 64 0 (codes "c") []
+
+-- `chain c{}chain d{}`
+abbrev pub two_lexemes : List Lexeme
+two_lexemes = its_lexemes 0 (codes "c") ++ its_lexemes 9 (codes "d")
+
+abbrev pub two_chains : List Chain
+two_chains = empty_chain 0 (codes "c") ∷ empty_chain 9 (codes "d") ∷ []
+
+pub two_are_some : some_chains 64 two_chains two_lexemes []
+two_are_some = (_, chain_read 64 0 (codes "c") (its_lexemes 9 (codes "d")), (_, chain_read 64 9 (codes "d") [], refl))
+
+pub least_is_some : some_chains 1 (least_chain ∷ []) (lexemes_of least_text least_tokens) []
+least_is_some = subst (λ l. some_chains 1 (least_chain ∷ []) l []) (sym least_read.1) least_read.2
+
+-- no chains aren't some
+pub none_are_not_some : (room : ℕ) (before after : List Lexeme) → some_chains room [] before after → ⊥
+none_are_not_some room before after h = h
+
+pub two_read : ReadsAs some_chains chains g.nothing 64 0 two_lexemes [] (Ok two_chains)
+two_read = (_, two_are_some, (refl, refl))
+
+-- a chain is left
+pub first_alone : ReadsAs some_chains chains g.nothing 64 0 two_lexemes (its_lexemes 9 (codes "d")) (Ok (empty_chain 0 (codes "c") ∷ [])) → ⊥
+first_alone h = let left : its_lexemes 9 (codes "d") ≡ [] = sym h.2.0 ∙ h.2.1 in cc
+
+-- `;` where chains should come
+pub no_chain_within : IsStuckWithin some_chains (λ (p : ℕ × List Chain). chains p.0 p.1 >> g.nothing) 64 0 (Fixed k.Semicolon 0 ∷ []) (Fixed k.Semicolon 0 ∷ [])
+no_chain_within = record {
+  stuck = record {
+    front = [];
+    split = refl;
+    begun = (empty_chain 0 (codes "c") ∷ [], its_lexemes 0 (codes "c"), λ tail. (_, chain_read 65 0 (codes "c") tail, refl));
+    rejects = λ other alike. record { rejects = λ p after d. none p.0 p.1 other d.0 (alike_kind (Fixed k.Semicolon 0 ∷ []) other alike) d.1 };
+  };
+  calm = opens_nowhere 0;
+}
+  where
+    none : (room : ℕ) (cs : List Chain) (other after : List Lexeme) → kind_at 0 other ≡ Some k.Semicolon → chains room cs other after → ⊥
+    none room [] other after kind d = d.1
+    none room (c ∷ cs) other after kind d = let first = ap (kind_at 0) d.1.1.1.1 in cc
+
+pub no_chains_read : ReadsAs some_chains chains g.nothing 64 0 (Fixed k.Semicolon 0 ∷ []) (Fixed k.Semicolon 0 ∷ []) (Err Unexpected)
+no_chains_read = record { none = λ e. no_chain_within; deep = λ at e. absurd (cc) }
+
+-- ---- statements without blocks
+
+-- `break ;` at whatever depth
+pub leave_form : (after : List Lexeme) → plain_form s.Break (lexemes_of leave_text leave_tokens ++ after) after
+leave_form after = a_break _ after (_, (0, refl), (6, refl))
+
+pub leave_read : ReadsForm (lexemes_of leave_text leave_tokens) [] (Ok s.Break)
+leave_read = leave_form []
+
+-- a loop isn't one: where no block may be nested it has none
+pub loop_is_not_plain : (body : List Stmt) (before after : List Lexeme) → plain_form (s.Loop body) before after → ⊥
+unfolding g.form
+loop_is_not_plain body before after h =
+    let read : read_at 0 (StmtKind-F.Loop body) before after = subst (λ l. read_at 0 l before after) (s.outs-Loop body) (h 0) in
+    read.2
 
 -- ---- a token that isn't expected
 

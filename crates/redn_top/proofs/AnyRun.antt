@@ -1,6 +1,6 @@
 -- However an image is run, its run ends, and what was printed before is a part of what it prints.
 use Rattle.std.proofs.Common.{◌≡◌, ℕ, Bool, true, false, List, [], ◌∷◌, ◌++◌, length, take, drop, inl, inr, refl, sym, ap, subst, ◌∙◌, append_assoc, append-nil}
-use Rattle.std.specs.Prelude.{◌⊎◌, Option, Some, None}
+use Rattle.std.specs.Prelude.{◌≢◌, ◌⊎◌, Option, Some, None}
 use Rattle.std.proofs.lemmas.List.{take-append-drop}
 use Rattle.redn_words.specs.States.{State}
 use Rattle.redn_words.specs.Steps.{possible, shown}
@@ -18,7 +18,7 @@ use Rattle.redn_top.specs.MessageWords.{messages, word_faults, length_faults}
 use Rattle.redn_top.specs.Reasons.{Never, NoneHolds, First, first_fault, message_reasons}
 use Rattle.redn_top.specs.RunText.{actions_of, events_text, end_schedule, made_text, planned, steps_asked, BreaksOff}
 use Rattle.redn_top.specs.Answers.{RunsImage, BadMessages, ToEnd, Stops, Meets, RunsMade, MadeMessages, MadeEnd, IsPartBy, opened}
-use Rattle.redn_top.proofs.RunLemmas.{AllPossible-push, events_text-push}
+use Rattle.redn_top.proofs.RunLemmas.{AllPossible-push, events_text-push, some_before, some_behind}
 use Rattle.redn_top.proofs.ScheduleRuns.{actions_both}
 
 -- ---- the messages fit or they don't
@@ -94,8 +94,8 @@ module _ (image : Image) (words : List MessageWord) (text : List ℕ) (none : No
           }),
         )
 
-  -- a run that broke off printed a part
-  pub broke_off : EachTextIsRead → BeginningsAreRead → (printed : List ℕ) → BreaksOff first text printed → IsPartBy (RunsImage image words text) printed
+  -- a run that broke off printed a part of something
+  pub broke_off : EachTextIsRead → BeginningsAreRead → (printed : List ℕ) → BreaksOff first text printed → (part : IsPartBy (RunsImage image words text) printed) × (printed ++ part.1 ≢ [])
   broke_off each law printed b =
       let r = each text in
       let upto = b.before ++ b.here ∷ [] in
@@ -108,8 +108,10 @@ module _ (image : Image) (words : List MessageWord) (text : List ℕ) (none : No
       let events_are : events_text first (actions_of upto) ≡ events ++ line = ap (events_text first) (actions_both b.before (b.here ∷ [])) ∙ events_text-push first (actions_of b.before) b.here.action in
       let texts : events_text first (actions_of upto) ++ later.1 ≡ printed ++ rest =
       ap (λ l. l ++ later.1) (events_are ∙ ap (λ l. events ++ l) (sym (take-append-drop b.part line)) ∙ sym (append_assoc events (take b.part line) (drop b.part line)))
-      ∙ append_assoc (events ++ take b.part line) (drop b.part line) later.1 ∙ ap (λ l. l ++ rest) (sym b.prints) in
-      (later.0, rest, subst (λ (l : List ℕ). RunsImage image words text later.0 l) texts later.2)
+      ∙ append_assoc (events ++ take b.part line) (drop b.part line) later.1 ∙ ap (λ l. l ++ rest) (sym b.prints) in (
+        (later.0, rest, subst (λ (l : List ℕ). RunsImage image words text later.0 l) texts later.2),
+        λ e. some_before (events_text first (actions_of upto)) later.1 (λ n. some_behind events line b.shows (sym events_are ∙ n)) (texts ∙ e),
+      )
 
 -- a run under a text ends so or so
 pub any_run : EachTextIsRead → BeginningsAreRead → (image : Image) (words : List MessageWord) (text : List ℕ) → IsPartBy (RunsImage image words text) []

@@ -1,19 +1,18 @@
 -- Which calls a command made, by what its parts answer.
-use Rattle.std.proofs.Common.{◌≡◌, ℕ, List, [], ◌∷◌, ◌++◌, refl, sym, ap, subst, ◌∙◌, append_assoc, append-nil}
+use Rattle.std.proofs.Common.{◌≡◌, ℕ, List, [], ◌∷◌, ◌++◌, refl, sym, ap, ◌∙◌, append_assoc, append-nil}
 use Rattle.std.specs.Prelude.{Option, Some, None, Result, Ok, Err, OnOk, IfErr}
-use Rattle.redn_words.specs.States.{State}
 use Rattle.redn_image.specs.Rules.{Image}
 use Rattle.redn_outside.specs.Calls.{Call, Reads, Writes, and_calls}
 use Rattle.redn_outside.specs.Files.{Files}
-use Rattle.redn_outside.specs.Seen.{StoreSeen, SinkSeen, KeepsFiles}
+use Rattle.redn_outside.specs.Seen.{StoreSeen, SinkSeen}
 use Rattle.redn_command.specs.Words.{Command, Plan, Schedule, Fair, Shuffle, RunWords, MessageWord}
 use Rattle.redn_top.specs.declared.limits.TheConstants.{SCHEDULE_LIMIT}
 use Rattle.redn_top.specs.declared.status.Status.{Status}
 use Rattle.redn_top.specs.declared.status.Status.TheVariants.{Done, Words, Schedule as BadSchedule, ReadFailed, Missing, WriteFailed, Long, Text, Program as ProgramRefused, Image as ImageRefused, Memory, Step, Message}
 use Rattle.redn_top.specs.Answers.{status_of}
-use Rattle.redn_top.specs.Calls.{plan_reads, run_reads, reads_of, image_writes, record_write, record_writes, AreFirst, Passed, AllPassed, EndAtRead, ReadsMade, RecordMade, CallsMade, GrewBy, Calls}
-use Rattle.redn_top.specs.Reasons.{Reasons, Finds, read_reasons}
-use Rattle.redn_top.specs.Refusals.{IsHeld, HasText, IsRunnable, ReadsRefuse, Refuses, SourceRefused, PutRefused, LinesRefused, WriteRefused, ImageRan, MadeStopped, RunEnds}
+use Rattle.redn_top.specs.Calls.{plan_reads, run_reads, reads_of, image_writes, record_write, record_writes, AreFirst, AllPassed, EndAtRead, ReadsMade, RecordMade, GrewBy, Calls}
+use Rattle.redn_top.specs.Reasons.{Reasons}
+use Rattle.redn_top.specs.Refusals.{IsHeld, HasText, IsRunnable, ReadsRefuse, Refuses, SourceRefused, PutRefused, LinesRefused, WriteRefused, MadeStopped, RunEnds}
 use Rattle.redn_top.proofs.FirstReason.{read_passed}
 
 -- ---- calls that are told

@@ -1,7 +1,7 @@
 -- How commands end, by what their parts answer.
 use Rattle.std.proofs.Common.{◌≡◌, ◌≤◌, ℕ, List, [], ◌∷◌, ◌++◌, length, take, drop, inl, inr, refl, sym, ap, subst, ◌∙◌}
 use Rattle.std.proofs.lemmas.List.{take-append-drop}
-use Rattle.std.specs.Prelude.{Option, Some, None, Result, Ok, Err, OnOk, IfErr}
+use Rattle.std.specs.Prelude.{◌≢◌, codes, Option, Some, None, Result, Ok, Err, OnOk, IfErr}
 use Rattle.std.specs.Option.{option_map}
 use Rattle.redn_syntax.specs.declared.tree.File.{File}
 use Rattle.redn_syntax.specs.Canonical.{canonical_text}
@@ -27,6 +27,7 @@ use Rattle.redn_top.specs.Refusals.{IsHeld, ReadsRefuse, ReadRefused, Refuses, S
 use Rattle.redn_top.proofs.FirstReason.{first_here, first_behind, none_both, refuses_map, reads_map, read_passed}
 use Rattle.redn_top.proofs.Contents.{means_none, source_refused}
 use Rattle.redn_top.proofs.ImageRuns.{told_nothing}
+use Rattle.redn_top.proofs.RunLemmas.{some_before, some_behind}
 
 pub written_nothing : (held : Option Files) → held ≡ option_map (with_written []) held
 written_nothing None = refl
@@ -133,7 +134,13 @@ module _ (file : List ℕ) (before now : StoreSeen) (out : SinkSeen) (told : now
             let both = take-append-drop h.1.0 printed in
             let checked : Checked (one_file text) Done (take h.1.0 printed ++ drop h.1.0 printed) [] = record { source = text; file = f; found = refl; read = read; accepted = accepted; done = refl; prints = both ∙ is; writes = refl } in
             let part : IsPart (Check file) (one_file text) (take h.1.0 printed) [] = record { status = Done; rest = drop h.1.0 printed; later = []; finishes = checked } in
-            inr (h.0, record { input = one_file text; printed = take h.1.0 printed; written = []; is_input = held.found; none = none; part = part; behind = tt; holds = told ∙ written_nothing before.told; prints = h.1.1 })
+            inr (
+              h.0,
+              record {
+                broke = record { input = one_file text; printed = take h.1.0 printed; written = []; is_input = held.found; none = none; part = part; behind = tt; holds = told ∙ written_nothing before.told; prints = h.1.1 };
+                some = λ e. some_behind _ (10 ∷ []) (λ n. absurd (cc)) (sym (both ∙ is) ∙ e);
+              },
+            )
         put_ends (Err Memory) e h none = absurd h
         put_ends (Err Done) e h none = absurd h
         put_ends (Err ReadFailed) e h none = absurd h
@@ -181,6 +188,11 @@ module _ (file name : List ℕ) (before mid : StoreSeen) (out : SinkSeen) (keeps
           }
       compile_written (Err s) w h = write_ends (Compile file name) before mid now out keeps (one_file text) held.found compile_none name refl others s h
 
+-- a listing has lines
+listing_some : (i : Image) → listing_text i ≢ []
+unfolding listing_text
+listing_some i e = some_before (codes "redn 1\n") _ (λ n. absurd (cc)) e
+
 -- disasm IMAGE
 module _ (name : List ℕ) (before now : StoreSeen) (out : SinkSeen) (told : now.told ≡ before.told) where
   pub disasm_unread : (s : Status) → ReadRefused before.told name IMAGE_LIMIT before now s → Ends (Disasm name) before now out out s
@@ -214,7 +226,13 @@ module _ (name : List ℕ) (before now : StoreSeen) (out : SinkSeen) (told : now
       disasm_put (Err WriteFailed) e h =
           let listed : Listed (one_file bytes) (h.1.0 ++ h.1.1) = record { bytes = bytes; image = image; found = refl; spells = spells; prints = sym h.1.2 ∙ lists } in
           let part : IsPart (Disasm name) (one_file bytes) h.1.0 [] = record { status = Done; rest = h.1.1; later = []; finishes = (listed, refl, refl) } in
-          inr (h.0, record { input = one_file bytes; printed = h.1.0; written = []; is_input = held.found; none = disasm_none; part = part; behind = tt; holds = told ∙ written_nothing before.told; prints = h.1.3 })
+          inr (
+            h.0,
+            record {
+              broke = record { input = one_file bytes; printed = h.1.0; written = []; is_input = held.found; none = disasm_none; part = part; behind = tt; holds = told ∙ written_nothing before.told; prints = h.1.3 };
+              some = λ e. listing_some image (sym lists ∙ h.1.2 ∙ e);
+            },
+          )
       disasm_put (Err Memory) e h = absurd h
       disasm_put (Err Done) e h = absurd h
       disasm_put (Err ReadFailed) e h = absurd h

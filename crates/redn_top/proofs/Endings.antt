@@ -37,11 +37,12 @@ module _ (file : List ℕ) (keep : Option (List ℕ)) (words : List MessageWord)
   broke h = record { printed = h.0; part = (h.1.0, h.1.1, record { text = text; found = refl; runs = h.1.2 }); holds = refl; prints = h.2 }
 
   under_schedule : (s : Status) → ImageRan image words text out out_now s → RunEnds (Some text) asked image before before out out_now s
+  unfolding broke
   under_schedule Done h = record { printed = h.0; ran = record { text = text; found = refl; runs = h.1 }; holds = written_nothing before.told ∙ ap (λ (w : List Written). option_map (with_written w) before.told) (sym nothing_kept); prints = h.2 }
   under_schedule (Step line) h = record { printed = h.0; ran = record { text = text; found = refl; runs = h.1 }; holds = written_nothing before.told; prints = h.2 }
   under_schedule (BadSchedule line) h = record { printed = h.0; ran = record { text = text; found = refl; runs = h.1 }; holds = written_nothing before.told; prints = h.2 }
   under_schedule (Message fault) h = record { printed = h.0; ran = record { text = text; found = refl; runs = h.1 }; holds = written_nothing before.told; prints = h.2 }
-  under_schedule WriteFailed h = inl (h.0, broke h.1)
+  under_schedule WriteFailed h = inl (h.0, record { broke = broke h.1.0; some = h.1.1 })
   under_schedule Memory h = broke h
   under_schedule Words h = absurd h
   under_schedule ReadFailed h = absurd h
@@ -67,8 +68,9 @@ module _ (p : Plan) (keep : Option (List ℕ)) (words : List MessageWord) (image
   made_broke h = record { printed = h.0; part = (h.1.0, h.1.1, ran_made p words image has h.1.0 (h.0 ++ h.1.1) h.1.2); holds = refl; prints = h.2 }
 
   pub stopped_ends : (s : Status) → MadeStopped image words p out out_now s → RunEnds None (run_of p keep words) image before before out out_now s
+  unfolding made_broke
   stopped_ends (Message fault) h = record { printed = h.0; ran = ran_made p words image has (Message fault) h.0 h.1; holds = written_nothing before.told; prints = h.2 }
-  stopped_ends WriteFailed h = inl (h.0, made_broke h.1)
+  stopped_ends WriteFailed h = inl (h.0, record { broke = made_broke h.1.0; some = h.1.1 })
   stopped_ends Memory h = made_broke h
   stopped_ends Done h = absurd h
   stopped_ends Words h = absurd h
@@ -216,12 +218,12 @@ module _ (name : List ℕ) (r : RunWords) (before mid : StoreSeen) (out : SinkSe
           }
 
       pub run_ends : (s : Status) → RunEnds schedule r image mid now out out_now s → Ends (Run name r) before now out out_now s
-      unfolding run_input
+      unfolding run_input run_broke
       run_ends Done h = run_answered Done h
       run_ends (BadSchedule line) h = run_answered (BadSchedule line) h
       run_ends (Step line) h = run_answered (Step line) h
       run_ends (Message fault) h = run_answered (Message fault) h
-      run_ends WriteFailed (inl h) = inr (h.0, run_broke h.1)
+      run_ends WriteFailed (inl h) = inr (h.0, record { broke = run_broke h.1.broke; some = h.1.some })
       run_ends WriteFailed (inr h) = inl (
         (subst (λ (n : ℕ). Rose n now.counts.write_faults) keeps.write_faults h.failed.0, sym keeps.reliable ∙ h.failed.1),
         inr (record {
@@ -327,12 +329,12 @@ module _ (file name : List ℕ) (r : RunWords) (before mid : StoreSeen) (out : S
             }
 
         pub go_ends : (s : Status) → RunEnds schedule r image wrote now out out_now s → Ends (Go file name r) before now out out_now s
-        unfolding run_input
+        unfolding run_input go_broke
         go_ends Done h = go_answered Done h
         go_ends (BadSchedule line) h = go_answered (BadSchedule line) h
         go_ends (Step line) h = go_answered (Step line) h
         go_ends (Message fault) h = go_answered (Message fault) h
-        go_ends WriteFailed (inl h) = inr (h.0, go_broke h.1)
+        go_ends WriteFailed (inl h) = inr (h.0, record { broke = go_broke h.1.broke; some = h.1.some })
         go_ends WriteFailed (inr h) = inl (
           (subst (λ (n : ℕ). Rose n now.counts.write_faults) keeps.write_faults (rose_from mid.counts.write_faults wrote.counts.write_faults now.counts.write_faults count h.failed.0), sym keeps.reliable ∙ sym reliable ∙ h.failed.1),
           inr (record {

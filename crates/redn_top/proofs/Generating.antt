@@ -1,6 +1,6 @@
 -- How the generated file's command ends, by what its parts answer.
-use Rattle.std.proofs.Common.{◌≡◌, ◌≤◌, ℕ, List, [], ◌∷◌, ◌++◌, length, inl, inr, refl, sym, ap, subst, ◌∙◌}
-use Rattle.std.specs.Prelude.{None, Result, Ok, Err, OnOk, IfErr}
+use Rattle.std.proofs.Common.{◌≡◌, ◌*◌, ◌≤◌, ℕ, List, [], ◌∷◌, ◌++◌, length, inl, inr, refl, sym, ap, subst, ◌∙◌}
+use Rattle.std.specs.Prelude.{◌≢◌, codes, None, Result, Ok, Err, OnOk, IfErr}
 use Rattle.std.specs.Option.{option_map}
 use Rattle.redn_outside.specs.Files.{OthersStay, with_file}
 use Rattle.redn_outside.specs.Seen.{StoreSeen, SinkSeen}
@@ -8,7 +8,9 @@ use Rattle.redn_image.specs.Rules.{Image}
 use Rattle.redn_image.specs.Spelling.{Spells, spelling}
 use Rattle.redn_image.specs.Faithful.{Faithful}
 use Rattle.redn_command.specs.Words.{Gen}
-use Rattle.redn_summary.specs.Summary.{generated_program, summary}
+use Rattle.redn_summary.specs.Summary.{counted, generated_program, generated_run, reply_line, summary}
+use Rattle.redn_gen.specs.Generated.{below, chain_count}
+use Rattle.std.specs.List.{flat_map}
 use Rattle.redn_top.specs.declared.status.Status.{Status}
 use Rattle.redn_top.specs.declared.status.Status.TheVariants.{Done, Words, Schedule as BadSchedule, ReadFailed, Missing, WriteFailed, Long, Text, Program as ProgramRefused, Image as ImageRefused, Memory, Step, Message}
 use Rattle.redn_top.specs.declared.limits.TheConstants.{IMAGE_LIMIT}
@@ -17,6 +19,14 @@ use Rattle.redn_top.specs.Answers.{Written, Generated, BrokeOff, Ends, status_of
 use Rattle.redn_top.specs.Refusals.{LinesRefused, WriteRefused}
 use Rattle.redn_top.proofs.Ending.{written_one}
 use Rattle.redn_top.proofs.ImageRuns.{told_nothing}
+use Rattle.redn_top.proofs.RunLemmas.{some_behind}
+
+-- a summary has lines
+summary_some : (number : ℕ) (image : Image) → summary number image ≢ []
+summary_some number image e =
+    let chains = chain_count number in
+    let front = counted (codes "gen ") number ++ counted (codes "chains ") chains ++ counted (codes "events ") (4003 * chains) ++ counted (codes "steps ") (length (generated_run number image)) ++ flat_map (reply_line number) (below chains) in
+    some_behind front (codes "end quiet\n") (λ n. absurd (cc)) e
 
 -- it reads no file
 no_file : Input
@@ -68,8 +78,9 @@ module _ (number : ℕ) (name : List ℕ) (before : StoreSeen) (out : SinkSeen) 
 
     module _ (text : List ℕ) (is : text ≡ summary number image) (out_now : SinkSeen) where
       pub gen_put : (r : Result (Unit {0}) Status) → OnOk r (out_now.told ≡ option_map (λ t. t ++ text) out.told) → IfErr r (LinesRefused text out out_now) → Ends (Gen number name) before now out out_now (status_of r)
+      unfolding broke
       gen_put (Ok done) e h = record { input = no_file; printed = text; written = first; is_input = tt; answers = inr (tt, (generated text is, refl)); holds = w.2 ∙ written_one name w.0 before.told; prints = e }
-      gen_put (Err WriteFailed) e h = inr (h.0, broke out_now h.1.0 h.1.1 (sym is ∙ h.1.2) h.1.3)
+      gen_put (Err WriteFailed) e h = inr (h.0, record { broke = broke out_now h.1.0 h.1.1 (sym is ∙ h.1.2) h.1.3; some = λ e. summary_some number image (sym is ∙ h.1.2 ∙ e) })
       gen_put (Err Memory) e h = absurd h
       gen_put (Err Done) e h = absurd h
       gen_put (Err Words) e h = absurd h

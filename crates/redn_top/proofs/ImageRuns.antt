@@ -21,7 +21,7 @@ use Rattle.redn_top.specs.Reasons.{Nil, Or, NoneHolds, First, first_fault, bad_w
 use Rattle.redn_top.specs.Answers.{RunsImage, BadMessages, ToEnd, Stops, Meets, status_of, opened, RunsMade, MadeMessages, MadeEnd, IsPartBy}
 use Rattle.redn_top.specs.Refusals.{FaultsStay, PrintedPart, MadePart, MadeWhole, MadeStopped, MadeRefused, ImageRan, PutRefused, RunRefused, WordsRefused}
 use Rattle.redn_top.specs.Makers.{RanAll, made_from, IsFor, IsMakerOf}
-use Rattle.redn_top.proofs.RunLemmas.{failed_later}
+use Rattle.redn_top.proofs.RunLemmas.{failed_later, made_some, some_behind}
 use Rattle.redn_top.proofs.AnyRun.{never_first, broke_off, any_run, any_made}
 
 pub told_nothing : (told : Option (List ℕ)) → told ≡ option_map (λ text. text ++ []) told
@@ -67,7 +67,7 @@ module _ (each : EachTextIsRead) (law : BeginningsAreRead) (image : Image) (word
     pub run_stopped : (s : Status) → RunRefused (opened image words) text before now s → ImageRan image words text before now s
     run_stopped (Step line) h = (h.0, Stops line none refl h.1, h.2)
     run_stopped (BadSchedule line) h = (h.0, Meets line none refl h.1, h.2)
-    run_stopped WriteFailed h = (h.0, (h.1.0, broke_off image words text none each law h.1.0 h.1.1, h.1.2))
+    run_stopped WriteFailed h = let b = broke_off image words text none each law h.1.0 h.1.1 in (h.0, ((h.1.0, b.0, h.1.2), b.1))
     run_stopped Memory h = absurd h
     run_stopped (Message f) h = absurd h
     run_stopped Done h = absurd h
@@ -94,8 +94,13 @@ module _ (each : EachTextIsRead) (law : BeginningsAreRead) (image : Image) (word
           let front = take h.1.0 end_schedule in
           let behind = drop h.1.0 end_schedule in
           let texts : (events ++ front) ++ behind ≡ events ++ end_schedule = append_assoc events front behind ∙ ap (λ l. events ++ l) (take-append-drop h.1.0 end_schedule) in
-          let part : IsPartBy (RunsImage image words text) (events ++ front) = (Done, behind, ToEnd none refl (record { lines = all.lines; reads = all.reads; all_possible = all.all_possible; prints = texts })) in
-          (failed_later before mid now stays h.0, (events ++ front, part, h.1.1 ∙ ap (option_map (λ before. before ++ take h.1.0 end_schedule)) all.puts ∙ told_both events (take h.1.0 end_schedule) before.told))
+          let part : IsPartBy (RunsImage image words text) (events ++ front) = (Done, behind, ToEnd none refl (record { lines = all.lines; reads = all.reads; all_possible = all.all_possible; prints = texts })) in (
+            failed_later before mid now stays h.0,
+            (
+              (events ++ front, part, h.1.1 ∙ ap (option_map (λ before. before ++ take h.1.0 end_schedule)) all.puts ∙ told_both events (take h.1.0 end_schedule) before.told),
+              λ e. some_behind events end_schedule (λ n. absurd (cc)) (sym texts ∙ e),
+            ),
+          )
       run_ended (Err Memory) e h = absurd h
       run_ended (Err (Message f)) e h = absurd h
       run_ended (Err (Step line)) e h = absurd h
@@ -139,7 +144,8 @@ module _ (image : Image) (words : List MessageWord) (plan : Plan) (before : Sink
     made_part h = (h.0, (Done, h.1, MadeEnd none refl (sym h.2)), h.3)
 
     pub made_stopped : (s : Status) → MadeRefused (opened image words) (steps_asked plan) (planned plan (opened image words)) before now s → MadeStopped image words plan before now s
-    made_stopped WriteFailed h = (h.0, made_part h.1)
+    unfolding made_part
+    made_stopped WriteFailed h = (h.0, (made_part h.1, λ e. made_some (opened image words) (steps_asked plan) (planned plan (opened image words)) (h.1.2 ∙ e)))
     made_stopped Memory h = made_part h
     made_stopped Done h = absurd h
     made_stopped Words h = absurd h

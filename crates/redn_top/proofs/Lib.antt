@@ -19,6 +19,7 @@ pub mod ScheduleRuns
 pub mod SourceEnds
 pub mod QuietRuns
 pub mod CallsMade
+pub mod ComeBack
 mod Worked
 mod WorkedParts
 mod WorkedCalls

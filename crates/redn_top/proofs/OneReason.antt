@@ -174,7 +174,7 @@ module _ (c : Command) (before now : StoreSeen) (out out_now : SinkSeen) (files 
   not_written : (s : Status) → First (reasons c i) s → Ends c before now out out_now WriteFailed → ⊥
   not_written s h (inl (failed, inl e)) = none_for s h e.input e.is_input e.none
   not_written s h (inl (failed, inr e)) = none_for s h e.input e.is_input e.none
-  not_written s h (inr (failed, e)) = none_for s h e.input e.is_input e.none
+  not_written s h (inr (failed, e)) = none_for s h e.broke.input e.broke.is_input e.broke.none
 
   pub demands_so : (s t : Status) → First (reasons c i) s → Ends c before now out out_now t → Calls c before now t → IsDemanded c before now s t
   demands_so s ReadFailed h e k = k

@@ -1,27 +1,25 @@
 -- Runs that are quiet have ended their chains.
-use Rattle.std.proofs.Common.{◌≡◌, ℕ, zero, suc, ◌+◌, ◌*◌, ◌%◌, ◌^◌, ◌<◌, ◌≤◌, Bool, true, false, ◌==◌, ◌&&◌, cond, List, [], ◌∷◌, ◌++◌, length, map, refl, sym, ap, subst, ◌∙◌, inl, inr, arith}
-use Rattle.std.specs.Prelude.{Option, Some, None, Result, Ok, Err, slice_get, slice_index, is_some}
+use Rattle.std.proofs.Common.{◌≡◌, ℕ, zero, suc, ◌+◌, ◌*◌, ◌%◌, ◌<◌, Bool, true, false, ◌==◌, ◌&&◌, cond, List, [], ◌∷◌, ◌++◌, length, map, refl, sym, ap, subst, ◌∙◌, arith}
+use Rattle.std.specs.Prelude.{Option, Some, None, Result, Ok, Err, slice_get, is_some}
 use Rattle.std.specs.List.{All, find, list_any, range_with_len}
 use Rattle.std.proofs.lemmas.List.{length-map}
 use Rattle.std.proofs.lemmas.List.FromFn.{length-range_with_len}
 use Rattle.std.proofs.lemmas.List.Elements.{All-nil, All-cons, All-map, All-from_get_or}
-use Rattle.std.proofs.lemmas.Bool.{true≢false, eqb-true}
+use Rattle.std.proofs.lemmas.Bool.{eqb-true}
 use Rattle.hex.specs.Hex.{decode_of, decode_pairs, IsBytes}
 use Rattle.hex.specs.declared.FromHexError.{FromHexError}
 use Rattle.hex.specs.declared.FromHexError.TheVariants.{OddLength}
 use Rattle.hex.proofs.HexLemmas.{decode_pairs-ok}
 use Rattle.redn_words.specs.declared.types.Action.{Action}
-use Rattle.redn_words.specs.declared.types.Obs.{Obs}
-use Rattle.redn_words.specs.declared.types.QueueRow.{QueueRow}
 use Rattle.redn_words.specs.declared.types.Receive.{Receive}
 use Rattle.redn_words.specs.Misfits.{misfit, misfits}
 use Rattle.redn_words.specs.States.{Queue, State, start, fresh_queue, fresh_chain}
-use Rattle.redn_words.specs.Runs.{AllPossible, reached, all_shown}
+use Rattle.redn_words.specs.Runs.{reached}
 use Rattle.redn_kernel.specs.declared.types.ChainInit.{ChainInit}
 use Rattle.redn_kernel.specs.declared.types.Program.{Program}
-use Rattle.redn_kernel.specs.Source.{Source, source_start, source_after, is_running, runs_there, fresh_chains, message_words, events}
+use Rattle.redn_kernel.specs.Source.{Source, source_start, source_after, is_running, runs_there, fresh_chains, message_words}
 use Rattle.redn_image.specs.Rules.{Image, Obeys}
-use Rattle.redn_image.specs.Faithful.{IsMessageOf, AreMessages, Explains, Faithful, start_of}
+use Rattle.redn_image.specs.Faithful.{IsMessageOf, AreMessages, Explains}
 use Rattle.redn_adapter.specs.Quiet.{IsQuiet}
 use Rattle.redn_adapter.proofs.Images.{image_inside}
 use Rattle.redn_sched.specs.Laws.{HaveOwners, EndsWhole, MadeRunsEndWhole}
@@ -30,11 +28,11 @@ use Rattle.redn_top.specs.declared.status.MessageFault.{MessageFault}
 use Rattle.redn_top.specs.declared.status.MessageFault.TheVariants.{Length}
 use Rattle.redn_top.specs.declared.status.Status.TheVariants.{Message}
 use Rattle.redn_top.specs.MessageWords.{is_for, bytes_or, given_by, given, messages, length_faults}
-use Rattle.redn_top.specs.Reasons.{NoneHolds, message_reasons, first_fault}
+use Rattle.redn_top.specs.Reasons.{first_fault}
 use Rattle.redn_top.specs.Answers.{opened}
-use Rattle.redn_top.specs.Refusals.{IsFew, MakesActions}
+use Rattle.redn_top.specs.Refusals.{MakesActions}
 use Rattle.redn_top.specs.RunText.{planned, steps_asked}
-use Rattle.redn_top.specs.Laws.{ends_chain, EachEnded, AcceptedWordsAreMessages, QuietRunsHaveEnded}
+use Rattle.redn_top.specs.Laws.{ends_chain, AcceptedWordsAreMessages, QuietRunsHaveEnded}
 use Rattle.redn_top.proofs.SourceEnds.{turns_end}
 
 -- ---- messages that are accepted

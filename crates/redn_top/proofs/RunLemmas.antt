@@ -1,6 +1,6 @@
 -- Runs, one action after the other.
-use Rattle.std.proofs.Common.{◌≡◌, ℕ, ◌+◌, ◌<◌, true, false, cond, List, [], ◌∷◌, ◌++◌, length, map, take, drop, get_or, suc, refl, sym, ap, ◌∙◌, arith, append_assoc, append-nil}
-use Rattle.std.specs.Prelude.{Option, Some, None}
+use Rattle.std.proofs.Common.{◌≡◌, ℕ, ◌+◌, ◌<◌, ◌==◌, true, false, cond, List, [], ◌∷◌, ◌++◌, length, map, take, drop, get_or, suc, refl, sym, ap, ◌∙◌, arith, append_assoc, append-nil}
+use Rattle.std.specs.Prelude.{◌≢◌, codes, Option, Some, None}
 use Rattle.std.specs.Option.{option_map}
 use Rattle.std.specs.List.{flat_map}
 use Rattle.std.proofs.lemmas.List.{take_more, map-append, take-append-drop}
@@ -16,7 +16,16 @@ use Rattle.redn_trace.specs.EventText.{event_text}
 use Rattle.redn_outside.specs.Seen.{SinkSeen, PutFailed}
 use Rattle.redn_top.specs.Refusals.{FaultsStay}
 use Rattle.redn_top.proofs.FirstReason.{rose_from}
-use Rattle.redn_top.specs.RunText.{events_text}
+use Rattle.redn_top.specs.RunText.{events_text, made_end, made_text}
+
+-- a list with a part that isn't empty isn't
+pub some_before : (front back : List ℕ) → front ≢ [] → front ++ back ≢ []
+some_before [] back some e = some refl
+some_before (x ∷ front) back some e = absurd (cc)
+
+pub some_behind : (front back : List ℕ) → back ≢ [] → front ++ back ≢ []
+some_behind [] back some e = some e
+some_behind (x ∷ front) back some e = absurd (cc)
 
 pub AllPossible-push : (s : State) (acts : List Action) (a : Action) → AllPossible s acts → possible (reached s acts) a ≡ true → AllPossible s (acts ++ a ∷ [])
 AllPossible-push s [] a h p = (p, tt)
@@ -138,3 +147,27 @@ faults_here seen = record { faults = omega arith; reliable = refl }
 -- a put that failed after others
 pub failed_later : (before mid now : SinkSeen) → FaultsStay before mid → PutFailed mid now → PutFailed before now
 failed_later before mid now a b = (rose_from before.faults mid.faults now.faults a.faults b.0, sym a.reliable ∙ b.1)
+
+-- a run whose actions are made prints its end line at least
+pub made_some : (s : State) (steps : ℕ) (acts : List Action) → made_text s steps acts ≢ []
+made_some s steps acts =
+    some_behind (events_text s acts) (made_end steps acts)
+    (elim (length acts == steps) as (λ v. cond v (codes "end steps\n") (codes "end quiet\n") ≢ []) [
+      | true ↦ λ e. absurd (cc)
+      | false ↦ λ e. absurd (cc)
+    ])
+
+-- an event that is one has a line
+pub line_some : (o : Obs) → (o ≡ shows.Nothing → ⊥) → event_text o ≢ []
+unfolding event_text
+line_some shows.Nothing is e = is refl
+line_some (shows.Set c x w) is e = some_before (codes "set") _ (λ n. absurd (cc)) e
+line_some (shows.Load c x t o w) is e = some_before (codes "load") _ (λ n. absurd (cc)) e
+line_some (shows.Look c t o w) is e = some_before (codes "look") _ (λ n. absurd (cc)) e
+line_some (shows.Store c t o w) is e = some_before (codes "store") _ (λ n. absurd (cc)) e
+line_some (shows.Reply c n words) is e = some_before (codes "reply") _ (λ n. absurd (cc)) e
+line_some (shows.Fault c t o) is e = some_before (codes "fault") _ (λ n. absurd (cc)) e
+line_some (shows.Stale q i) is e = some_before (codes "stale") _ (λ n. absurd (cc)) e
+line_some (shows.Undefined q i) is e = some_before (codes "undefined") _ (λ n. absurd (cc)) e
+line_some (shows.Refused q i) is e = some_before (codes "refused") _ (λ n. absurd (cc)) e
+line_some (shows.Odd q i) is e = some_before (codes "odd") _ (λ n. absurd (cc)) e

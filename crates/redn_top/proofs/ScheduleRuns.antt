@@ -186,13 +186,21 @@ module _ (first now : Running) (text : List ℕ) (done : List Numbered) (out mid
   step_ends (AnAction n a) b r WriteFailed h =
       let here : Numbered = record { line = n; action = a } in
       let can : possible (reached first.state (actions_of done)) a ≡ true = ap (λ (s : State). possible s a) (sym state) ∙ h.0 in
-      let part = take h.2.0 (event_text (shown (reached first.state (actions_of done)) a)) in
+      let part = take h.3.0 (event_text (shown (reached first.state (actions_of done)) a)) in
       let events = events_text first.state (actions_of done) in (
-        failed_later out mid out_now stays h.1,
+        failed_later out mid out_now stays h.2,
         (
           events ++ part,
-          record { before = done; here = here; part = h.2.0; begins = b; all_possible = subst (AllPossible first.state) (sym (actions_both done (here ∷ []))) (AllPossible-push first.state (actions_of done) a all_possible can); prints = refl },
-          h.2.1 ∙ ap (λ (s : State). option_map (λ t. t ++ take h.2.0 (event_text (shown s a))) mid.told) state ∙ ap (option_map (λ t. t ++ part)) puts ∙ option_map-twice events part out.told,
+          record {
+            before = done;
+            here = here;
+            part = h.3.0;
+            begins = b;
+            all_possible = subst (AllPossible first.state) (sym (actions_both done (here ∷ []))) (AllPossible-push first.state (actions_of done) a all_possible can);
+            shows = λ e. h.1 (ap (λ (s : State). event_text (shown s a)) state ∙ e);
+            prints = refl;
+          },
+          h.3.1 ∙ ap (λ (s : State). option_map (λ t. t ++ take h.3.0 (event_text (shown s a))) mid.told) state ∙ ap (option_map (λ t. t ++ part)) puts ∙ option_map-twice events part out.told,
         ),
       )
   step_ends (Bad n) b r (BadSchedule line) h = (

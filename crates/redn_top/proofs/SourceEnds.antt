@@ -1,5 +1,5 @@
 -- A source chain ends with a reply or a fault.
-use Rattle.std.proofs.Common.{◌≡◌, ◌≢◌, ◌⊎◌, ℕ, zero, suc, ◌<◌, Bool, true, false, cond, not, ◌||◌, ◌&&◌, ◌==◌, List, [], ◌∷◌, length, refl, sym, ap, subst, ◌∙◌, inl, inr, arith}
+use Rattle.std.proofs.Common.{◌≡◌, ◌⊎◌, ℕ, Bool, true, false, cond, not, ◌||◌, ◌&&◌, List, [], ◌∷◌, refl, sym, ap, subst, ◌∙◌, inl, inr}
 use Rattle.std.specs.Prelude.{Option, Some, None, is_some, slice_get, slice_set}
 use Rattle.std.specs.List.{list_any}
 use Rattle.std.proofs.lemmas.Bool.{true≢false, false≢true, eq-eqb, and_parts, cases_eq}
@@ -9,7 +9,7 @@ use Rattle.redn_words.specs.Runs.{shown_then}
 use Rattle.redn_words.proofs.Others.{set_here, set_other}
 use Rattle.redn_kernel.specs.declared.types.Kernel.{Kernel, out-Kernel}
 use Rattle.redn_kernel.specs.declared.types.Kernel.TheOpen.{Kernel-F}
-use Rattle.redn_kernel.specs.Source.{Item, TakeArgument, Do, AgainLoop, AgainRepeat, Find, Take, Visit, Left, Next, Here, ChainState, Source, Turn, has_word, within, goes_on, gets, ends, statement_does, item_does, first_does, chain_runs, runs_there, is_running, chain_step, after_turn, source_step, source_after, EachRuns, events}
+use Rattle.redn_kernel.specs.Source.{Item, TakeArgument, Do, AgainLoop, AgainRepeat, Find, Take, Visit, Left, Next, Here, ChainState, Source, Turn, has_word, within, ends, statement_does, item_does, first_does, chain_runs, runs_there, is_running, chain_step, after_turn, source_step, source_after, events}
 use Rattle.redn_top.specs.Laws.{ends_chain}
 
 -- a turn keeps the message, and where it ends the chain, its event says so

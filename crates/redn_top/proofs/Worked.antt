@@ -1,5 +1,5 @@
 -- Examples typed by hand: statuses, words, messages, places, reasons, and a run that stops.
-use Rattle.std.proofs.Common.{arith, ◌≡◌, ◌<◌, ℕ, List, [], ◌∷◌, length, ap, inl, inr, refl, lit<}
+use Rattle.std.proofs.Common.{arith, ◌≡◌, ◌<◌, ◌∙◌, ℕ, true, List, [], ◌∷◌, length, take, ap, inl, inr, refl, sym, lit<}
 use Rattle.std.specs.Prelude.{codes, Option, Some, None}
 use Rattle.std.specs.Fmt.{digits}
 use Rattle.std.specs.FinMap as finite
@@ -7,7 +7,8 @@ use Rattle.std.specs.FinMap.{gets}
 use Rattle.hex.specs.Hex.{decode_pairs}
 use Rattle.redn_outside.specs.Files.{Files, with_file}
 use Rattle.redn_words.specs.declared.types.Action.{Action}
-use Rattle.redn_words.specs.declared.types.Action.TheVariants.{Deliver}
+use Rattle.redn_words.specs.declared.types.Action.TheVariants.{Deliver, Land}
+use Rattle.redn_words.specs.declared.types.Obs.TheVariants as shows
 use Rattle.redn_words.specs.Words.{spelled}
 use Rattle.redn_words.specs.States.{State, start}
 use Rattle.redn_words.specs.Steps.{possible, after, shown}
@@ -18,6 +19,7 @@ use Rattle.redn_image.specs.Rules.{Image as Parts}
 use Rattle.redn_image.specs.Faithful.{start_of}
 use Rattle.redn_syntax.specs.declared.token.Token.{Token}
 use Rattle.redn_syntax.specs.declared.token.TokenKind.TheVariants.{Name}
+use Rattle.redn_top.specs.declared.limits.TheConstants.{FILE_LIMIT, IMAGE_LIMIT, LISTING_LIMIT, SCHEDULE_LIMIT}
 use Rattle.redn_top.specs.declared.status.TextFault.TheVariants.{Byte, Nesting}
 use Rattle.redn_top.specs.declared.status.ImageFault.TheVariants.{Magic, Version, Rule}
 use Rattle.redn_top.specs.declared.status.MessageFault.TheVariants.{NoChain, Twice, BadHex, Length}
@@ -29,6 +31,7 @@ use Rattle.redn_top.specs.Reasons.{Input, IsInput, First, reasons}
 use Rattle.redn_top.specs.Sources.{token_place}
 use Rattle.redn_top.specs.Answers.{IsPartBy, IsBehindImage, GoodSchedule}
 use Rattle.redn_top.specs.RunText.{BreaksOff, StopsAt, RunsToEnd, made_end}
+use Rattle.redn_top.proofs.RunLemmas.{line_some}
 
 codes_of : (code_of (Step 7) ≡ 11) × (code_of Missing ≡ 16) × (code_of (Long 5 4) ≡ 5) × (code_of (Text (Byte 2)) ≡ 6) × (code_of (ProgramRefused 7 10 0) ≡ 7) × (code_of (Image Magic) ≡ 8) × (code_of (Message (Twice 0)) ≡ 12) × (code_of Words ≡ 2) × (code_of (BadSchedule 3) ≡ 10)
 codes_of = (refl, refl, refl, refl, refl, refl, refl, refl, refl)
@@ -148,10 +151,22 @@ made_ends = (refl, refl)
 half_an_end : IsPartBy (λ s printed. RunsToEnd first alone printed) (codes "end s")
 half_an_end = (Done, codes "chedule\n", a_message_alone)
 
--- the put of a line that shows nothing
-nothing_put : BreaksOff first alone []
-unfolding first at no_queues alone action_text digits spelled start possible after shown event_text
-nothing_put = record { before = []; here = at 3 (Deliver 0); part = 3; begins = inr (tt, inr (tt, inl (record { text = refl; fits = lit< tt }, refl, tt))); all_possible = (refl, tt); prints = refl }
+-- half the line of an event is put, wherever the first action shows it
+landing : List ℕ
+landing = codes "l 2 5"
+
+half_a_line : (s : State) → possible s (Land 2 5) ≡ true → shown s (Land 2 5) ≡ shows.Set 0 0 42 → BreaksOff s landing (codes "set 0")
+unfolding landing at action_text digits event_text
+half_a_line s can is =
+    record {
+      before = [];
+      here = at 1 (Land 2 5);
+      part = 5;
+      begins = inl (record { text = refl; fits = (lit< tt, lit< tt) }, refl, tt);
+      all_possible = (can, tt);
+      shows = λ e. line_some (shown s (Land 2 5)) (λ n. absurd (let f = sym is ∙ n in cc)) e;
+      prints = ap (λ o. take 5 (event_text o)) (sym is);
+    }
 
 -- its one line is good and possible
 a_good_schedule : GoodSchedule (Some alone) (Schedule (codes "s")) first
@@ -160,3 +175,7 @@ a_good_schedule = (alone, codes "end schedule\n", refl, a_message_alone)
 -- a command that writes nothing before it prints
 behind_no_image : IsBehindImage (Gen 5 (codes "g")) (codes "gen 5\n") [] → ⊥
 behind_no_image h = absurd (let e = h refl in cc)
+
+-- how long the files that are read may be
+the_limits : (FILE_LIMIT ≡ 1048576) × (IMAGE_LIMIT ≡ 33554432) × (LISTING_LIMIT ≡ 268435456) × (SCHEDULE_LIMIT ≡ 16777216)
+the_limits = (refl, refl, refl, refl)

@@ -1,19 +1,16 @@
 -- Calls of commands and ends of chains, typed by hand.
-use Rattle.std.proofs.Common.{◌≡◌, ℕ, zero, suc, List, [], ◌∷◌, ◌++◌, get_or, refl, ap, sym, true, false, arith}
-use Rattle.std.specs.Prelude.{codes, Option, Some, None, slice_get}
-use Rattle.std.specs.FinMap as finite
-use Rattle.std.specs.List.{list_any}
+use Rattle.std.proofs.Common.{◌≡◌, ℕ, zero, suc, List, [], ◌∷◌, ◌++◌, get_or, refl, ap, true, false, arith}
+use Rattle.std.specs.Prelude.{codes, Some, None}
 use Rattle.redn_outside.specs.Calls.{Call, Reads, Writes}
-use Rattle.redn_outside.specs.Files.{Files}
 use Rattle.redn_outside.specs.Seen.{StoreSeen}
 use Rattle.redn_words.specs.declared.types.Obs.{Obs}
 use Rattle.redn_words.specs.declared.types.Obs.TheVariants as shows
-use Rattle.redn_command.specs.Words.{Command, Run, Go, Gen, Fair, Schedule, RunWords}
+use Rattle.redn_command.specs.Words.{Command, Run, Go, Gen, Fair, Schedule}
 use Rattle.redn_top.specs.declared.limits.TheConstants.{FILE_LIMIT, IMAGE_LIMIT, SCHEDULE_LIMIT}
-use Rattle.redn_top.specs.declared.status.Status.TheVariants.{Done, Memory, Missing, ReadFailed, WriteFailed, Message}
+use Rattle.redn_top.specs.declared.status.Status.TheVariants.{Done, Missing, ReadFailed, WriteFailed, Message}
 use Rattle.redn_top.specs.declared.status.MessageFault.TheVariants.{NoChain}
 use Rattle.redn_top.specs.Answers.{first_written}
-use Rattle.redn_top.specs.Calls.{reads_of, AreFirst, AllPassed, EndAtRead, ReadsMade, RecordMade, CallsMade, Calls, IsDemanded}
+use Rattle.redn_top.specs.Calls.{reads_of, EndAtRead, RecordMade, CallsMade, IsDemanded}
 use Rattle.redn_top.specs.Laws.{ends_chain, EachEnded}
 use Rattle.redn_top.proofs.FirstReason.{read_passed}
 

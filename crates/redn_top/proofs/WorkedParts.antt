@@ -1,6 +1,6 @@
 -- Parts of what a command does, typed by hand.
 use Rattle.std.proofs.Common.{◌≡◌, ◌≤◌, ℕ, List, [], ◌∷◌, ◌++◌, length, inl, inr, refl, sym}
-use Rattle.std.specs.Prelude.{codes, Option, Some, None, true}
+use Rattle.std.specs.Prelude.{codes, Some, None, true}
 use Rattle.std.specs.FinMap as finite
 use Rattle.redn_outside.specs.Files.{Files, with_file}
 use Rattle.redn_outside.specs.Seen.{StoreSeen, SinkSeen}
@@ -16,8 +16,8 @@ use Rattle.redn_top.specs.declared.limits.TheConstants.{IMAGE_LIMIT}
 use Rattle.redn_top.specs.declared.status.Status.{Status}
 use Rattle.redn_top.specs.declared.status.MessageFault.TheVariants.{NoChain}
 use Rattle.redn_top.specs.Reasons.{Input}
-use Rattle.redn_top.specs.Answers.{Written, Generated, IsPart, BrokeOff, LostFirst, LostLast, Ends, GoodRun, IsGood, DoneOrWant}
-use Rattle.redn_top.specs.Refusals.{RanBy, PrintedPart, MadePart}
+use Rattle.redn_top.specs.Answers.{Written, Generated, IsPart, BrokeOff, CutOff, LostFirst, LostLast, Ends, GoodRun, IsGood, DoneOrWant}
+use Rattle.redn_top.specs.Refusals.{RanBy, PrintedPart, PrintedSome, MadePart}
 
 nothing_read : Input
 nothing_read = record { first = None; schedule = None }
@@ -74,6 +74,11 @@ module _ (image : Image) (bytes rest : List ℕ) (spells : Spells bytes image) (
   unfolding holding with_text nothing_read
   broke = record { input = nothing_read; printed = codes "gen 5\n"; written = its_image ∷ []; is_input = tt; none = tt; part = one_line; behind = λ e. absurd (cc); holds = refl; prints = refl }
 
+  -- had a put failed there, it would have been that of a line
+  cut : CutOff gen (holding finite.empty) (holding (with_file (codes "g") bytes finite.empty)) (with_text []) (with_text (codes "gen 5\n"))
+  unfolding broke
+  cut = record { broke = broke; some = λ e. absurd (cc) }
+
   told_so : Ends gen (holding finite.empty) (holding (with_file (codes "g") bytes finite.empty)) (with_text []) (with_text (codes "gen 5\n")) Memory
   told_so = inr broke
 
@@ -98,6 +103,14 @@ ran_whole = (codes "ab", (refl, refl), refl)
 ran_part : PrintedPart Letters (with_text (codes "-")) (with_text (codes "-a"))
 unfolding with_text
 ran_part = (codes "a", (Done, codes "b", (refl, refl)), refl)
+
+-- a put of it may fail, and none of what prints nothing
+cut_short : PrintedSome Letters (with_text (codes "-")) (with_text (codes "-a"))
+unfolding ran_part
+cut_short = (ran_part, λ e. absurd (cc))
+
+nothing_to_put : PrintedSome (λ s text. text ≡ []) (with_text []) (with_text []) → ⊥
+nothing_to_put h = h.1 h.0.1.2
 
 wanted : RanBy Letters (with_text (codes "-")) (with_text (codes "-a")) Memory
 wanted = ran_part

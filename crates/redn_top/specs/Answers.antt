@@ -1,5 +1,5 @@
 -- What a command answers, prints and writes, by what it finds.
-use Rattle.std.specs.Prelude.{◌≡◌, ◌⊎◌, ◌≤◌, ℕ, List, [], ◌∷◌, ◌++◌, length, Option, Some, None, Result, Ok, Err}
+use Rattle.std.specs.Prelude.{◌≡◌, ◌≢◌, ◌⊎◌, ◌≤◌, ℕ, List, [], ◌∷◌, ◌++◌, length, Option, Some, None, Result, Ok, Err}
 use Rattle.std.specs.Option.{option_map}
 use Rattle.redn_syntax.specs.declared.tree.File.{File}
 use Rattle.redn_syntax.specs.Canonical.{canonical_text}
@@ -185,6 +185,11 @@ pub record BrokeOff (c : Command) (before now : StoreSeen) (out out_now : SinkSe
   pub holds : now.told ≡ option_map (with_written written) before.told
   pub prints : out_now.told ≡ option_map (λ text. text ++ printed) out.told
 
+-- a put failed: so there was something to print
+pub record CutOff (c : Command) (before now : StoreSeen) (out out_now : SinkSeen) : Type 0 where
+  pub broke : BrokeOff c before now out out_now
+  pub some : broke.printed ++ broke.part.rest ≢ []
+
 -- the name under which a command writes first
 abbrev pub first_written : Command → Option (List ℕ)
 first_written (Check file) = None
@@ -221,7 +226,7 @@ pub record LostLast (c : Command) (before now : StoreSeen) (out out_now : SinkSe
 -- with its status, a command did this
 abbrev pub Ends : Command → StoreSeen → StoreSeen → SinkSeen → SinkSeen → Status → Type 0
 Ends c before now out out_now status.ReadFailed = ReadFailed before now × Stayed before now out out_now
-Ends c before now out out_now status.WriteFailed = (WriteFailed before now × (LostFirst c before now out out_now ⊎ LostLast c before now out out_now)) ⊎ (PutFailed out out_now × BrokeOff c before now out out_now)
+Ends c before now out out_now status.WriteFailed = (WriteFailed before now × (LostFirst c before now out out_now ⊎ LostLast c before now out out_now)) ⊎ (PutFailed out out_now × CutOff c before now out out_now)
 Ends c before now out out_now status.Memory = Stayed before now out out_now ⊎ BrokeOff c before now out out_now
 Ends c before now out out_now status.Missing = MissingRose before now × Answered c before now out out_now status.Missing
 Ends c before now out out_now (status.Long seen limit) = LongRose before now × Answered c before now out out_now (status.Long seen limit)

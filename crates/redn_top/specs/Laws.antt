@@ -1,16 +1,20 @@
 -- Laws on what commands print.
-use Rattle.std.specs.Prelude.{◌≡◌, ℕ, ◌<◌, Bool, true, false, ◌==◌, List, length, Option, Some, slice_get}
-use Rattle.std.specs.List.{list_any}
+use Rattle.std.specs.Prelude.{◌≡◌, ℕ, ◌<◌, ◌≤◌, Bool, true, false, ◌==◌, List, [], ◌∷◌, length, Option, Some, slice_get}
+use Rattle.std.specs.List.{All, list_any}
 use Rattle.redn_words.specs.declared.types.Obs.{Obs}
 use Rattle.redn_words.specs.declared.types.Obs.TheVariants as shows
 use Rattle.redn_words.specs.Runs.{all_shown}
 use Rattle.redn_kernel.specs.declared.types.Program.{Program}
 use Rattle.redn_image.specs.Rules.{Image, Obeys}
 use Rattle.redn_image.specs.Faithful.{AreMessages, Faithful}
-use Rattle.redn_command.specs.Words.{Plan, MessageWord}
+use Rattle.redn_image.specs.Spelling.{Spells}
+use Rattle.redn_command.specs.Words.{Assemble, Disasm, Plan, MessageWord}
 use Rattle.redn_top.specs.MessageWords.{messages}
-use Rattle.redn_top.specs.Reasons.{NoneHolds, message_reasons}
-use Rattle.redn_top.specs.Answers.{opened}
+use Rattle.redn_top.specs.declared.limits.TheConstants.{IMAGE_LIMIT}
+use Rattle.redn_top.specs.declared.status.Status.{Status}
+use Rattle.redn_top.specs.declared.status.Status.TheVariants.{Done}
+use Rattle.redn_top.specs.Reasons.{Input, NoneHolds, message_reasons}
+use Rattle.redn_top.specs.Answers.{Answers, Written, opened}
 use Rattle.redn_top.specs.Refusals.{IsFew, MakesActions}
 use Rattle.redn_top.specs.RunText.{planned, steps_asked}
 
@@ -33,3 +37,14 @@ abbrev pub QuietRunsHaveEnded : Type 0
 QuietRunsHaveEnded = (p : Program) (image : Image) (words : List MessageWord) (plan : Plan) → Faithful p image → Obeys image → NoneHolds (message_reasons image words) → MakesActions plan → IsFew plan
     → length (planned plan (opened image words)) < steps_asked plan
     → EachEnded (messages (length image.receives) words) (all_shown (opened image words) (planned plan (opened image words)))
+
+-- of a text, `assemble` writes these bytes
+abbrev pub WritesAgain : List ℕ → List ℕ → List ℕ → List ℕ → Type 0
+WritesAgain listing name bytes text =
+    (i : Input) (s : Status) (printed : List ℕ) (written : List Written) → i.first ≡ Some text → Answers (Assemble listing name) i s printed written → (s ≡ Done) × (written ≡ record { name = name; bytes = bytes } ∷ [])
+
+-- a file that holds an image, as `compile` writes it, is listed, and what is assembled of the listing is this file byte for byte
+abbrev pub ListedFilesComeBack : Type 0
+ListedFilesComeBack =
+    (name listing other : List ℕ) (bytes : List ℕ) (image : Image) → Spells bytes image → All (λ b. b < 256) image.memory → length bytes ≤ IMAGE_LIMIT
+    → (i : Input) (s : Status) (text : List ℕ) (written : List Written) → i.first ≡ Some bytes → Answers (Disasm name) i s text written → (s ≡ Done) × WritesAgain listing other bytes text

@@ -1,5 +1,5 @@
 -- What makes the steps of a run, one after the other.
-use Rattle.std.specs.Prelude.{◌≡◌, ℕ, ◌+◌, true, false, take, List, ◌++◌, length, Option, Some, None}
+use Rattle.std.specs.Prelude.{◌≡◌, ◌≢◌, ℕ, ◌+◌, true, false, take, List, [], ◌++◌, length, Option, Some, None}
 use Rattle.std.specs.Option.{option_map}
 use Rattle.redn_words.specs.declared.types.Action.{Action}
 use Rattle.redn_words.specs.States.{State}
@@ -34,7 +34,7 @@ pub record Makes (lines : List Numbered) (before now : Running) (told told_now :
 abbrev pub StepRefused : Got → State → SinkSeen → SinkSeen → Status → Type 0
 StepRefused (AnAction n a) s before now (status.Step line) = (line ≡ n) × (possible s a ≡ false) × (now ≡ before)
 StepRefused (Bad n) s before now (status.Schedule line) = (line ≡ n) × (now ≡ before)
-StepRefused (AnAction n a) s before now status.WriteFailed = (possible s a ≡ true) × PutFailed before now × ((part : ℕ) × (now.told ≡ option_map (λ t. t ++ take part (event_text (shown s a))) before.told))
+StepRefused (AnAction n a) s before now status.WriteFailed = (possible s a ≡ true) × (event_text (shown s a) ≢ []) × PutFailed before now × ((part : ℕ) × (now.told ≡ option_map (λ t. t ++ take part (event_text (shown s a))) before.told))
 StepRefused _ s before now _ = ⊥
 
 -- no line of a text is bad, all actions were possible, and their events are put

@@ -1,5 +1,5 @@
 -- What the parts of a command refuse, and what each leaves.
-use Rattle.std.specs.Prelude.{◌≡◌, ◌⊎◌, ℕ, ◌≤◌, List, [], ◌∷◌, ◌++◌, length, take, Option, Some, None}
+use Rattle.std.specs.Prelude.{◌≡◌, ◌≢◌, ◌⊎◌, ℕ, ◌≤◌, List, [], ◌∷◌, ◌++◌, length, take, Option, Some, None}
 use Rattle.std.specs.Option.{option_map}
 use Rattle.redn_words.specs.States.{State}
 use Rattle.redn_outside.specs.Files.{Files, OthersStay}
@@ -135,9 +135,13 @@ Printed Runs before now s = (printed : List ℕ) × Runs s printed × (now.told 
 abbrev pub PrintedPart : (Status → List ℕ → Type 0) → SinkSeen → SinkSeen → Type 0
 PrintedPart Runs before now = (printed : List ℕ) × IsPartBy Runs printed × (now.told ≡ option_map (λ text. text ++ printed) before.told)
 
+-- the same of something that prints
+abbrev pub PrintedSome : (Status → List ℕ → Type 0) → SinkSeen → SinkSeen → Type 0
+PrintedSome Runs before now = (part : PrintedPart Runs before now) × (part.0 ++ part.1.1 ≢ [])
+
 -- how something ran, and what it put before a put failed or memory was wanting
 abbrev pub RanBy : (Status → List ℕ → Type 0) → SinkSeen → SinkSeen → Status → Type 0
-RanBy Runs before now status.WriteFailed = PutFailed before now × PrintedPart Runs before now
+RanBy Runs before now status.WriteFailed = PutFailed before now × PrintedSome Runs before now
 RanBy Runs before now status.Memory = PrintedPart Runs before now
 RanBy Runs before now status.Done = Printed Runs before now status.Done
 RanBy Runs before now (status.Schedule line) = Printed Runs before now (status.Schedule line)
@@ -152,7 +156,7 @@ ImageRan image words text = RanBy (RunsImage image words text)
 -- why it wasn't run to its end
 abbrev pub MadeStopped : Image → List MessageWord → Plan → SinkSeen → SinkSeen → Status → Type 0
 MadeStopped image words plan before now (status.Message fault) = Printed (RunsMade image words plan) before now (status.Message fault)
-MadeStopped image words plan before now status.WriteFailed = PutFailed before now × PrintedPart (RunsMade image words plan) before now
+MadeStopped image words plan before now status.WriteFailed = PutFailed before now × PrintedSome (RunsMade image words plan) before now
 MadeStopped image words plan before now status.Memory = PrintedPart (RunsMade image words plan) before now
 MadeStopped image words plan before now _ = ⊥
 
@@ -213,12 +217,17 @@ pub record RunEnded (schedule : Option (List ℕ)) (r : RunWords) (image : Image
   pub holds : now.told ≡ option_map (with_written (kept r image s)) before.told
   pub prints : out_now.told ≡ option_map (λ text. text ++ printed) out.told
 
--- a put failed, or memory was wanting
+-- memory was wanting, or a put failed
 pub record RunBroke (schedule : Option (List ℕ)) (r : RunWords) (image : Image) (before now : StoreSeen) (out out_now : SinkSeen) : Type 0 where
   pub printed : List ℕ
   pub part : IsPartBy (Ran schedule r.plan r.messages image) printed
   pub holds : now.told ≡ before.told
   pub prints : out_now.told ≡ option_map (λ text. text ++ printed) out.told
+
+-- a put failed: so there was something to print
+pub record RunCut (schedule : Option (List ℕ)) (r : RunWords) (image : Image) (before now : StoreSeen) (out out_now : SinkSeen) : Type 0 where
+  pub broke : RunBroke schedule r image before now out out_now
+  pub some : broke.printed ++ broke.part.1 ≢ []
 
 -- the write of the record failed
 pub record RunLost (schedule : Option (List ℕ)) (r : RunWords) (image : Image) (before now : StoreSeen) (out out_now : SinkSeen) : Type 0 where
@@ -235,6 +244,6 @@ RunEnds schedule r image before now out out_now status.Done = RunEnded schedule 
 RunEnds schedule r image before now out out_now (status.Schedule line) = RunEnded schedule r image before now out out_now (status.Schedule line)
 RunEnds schedule r image before now out out_now (status.Step line) = RunEnded schedule r image before now out out_now (status.Step line)
 RunEnds schedule r image before now out out_now (status.Message fault) = RunEnded schedule r image before now out out_now (status.Message fault)
-RunEnds schedule r image before now out out_now status.WriteFailed = (PutFailed out out_now × RunBroke schedule r image before now out out_now) ⊎ RunLost schedule r image before now out out_now
+RunEnds schedule r image before now out out_now status.WriteFailed = (PutFailed out out_now × RunCut schedule r image before now out out_now) ⊎ RunLost schedule r image before now out out_now
 RunEnds schedule r image before now out out_now status.Memory = RunBroke schedule r image before now out out_now
 RunEnds schedule r image before now out out_now _ = ⊥

@@ -1,5 +1,5 @@
 -- What a run prints, and what is recorded of it.
-use Rattle.std.specs.Prelude.{◌≡◌, ℕ, false, take, List, [], ◌∷◌, ◌++◌, map, length, codes, ◌==◌, if◌then◌else◌, Some, None}
+use Rattle.std.specs.Prelude.{◌≡◌, ◌≢◌, ℕ, false, take, List, [], ◌∷◌, ◌++◌, map, length, codes, ◌==◌, if◌then◌else◌, Some, None}
 use Rattle.std.specs.List.{flat_map}
 use Rattle.redn_words.specs.declared.types.Action.{Action}
 use Rattle.redn_words.specs.States.{State}
@@ -48,13 +48,14 @@ pub record StopsAt (s : State) (text : List ℕ) (line : ℕ) (printed : List �
   pub not_possible : possible (reached s (actions_of before)) here.action ≡ false
   pub prints : printed ≡ events_text s (actions_of before)
 
--- a put failed: the events of some actions are printed, and a part of the next one's line
+-- a put failed: the events of some actions are printed, and a part of the line of the next one, which shows something
 pub record BreaksOff (s : State) (text : List ℕ) (printed : List ℕ) : Type 0 where
   pub before : List Numbered
   pub here : Numbered
   pub part : ℕ
   pub begins : Begins 1 (lines_of text) (before ++ here ∷ [])
   pub all_possible : AllPossible s (actions_of (before ++ here ∷ []))
+  pub shows : event_text (shown (reached s (actions_of before)) here.action) ≢ []
   pub prints : printed ≡ events_text s (actions_of before) ++ take part (event_text (shown (reached s (actions_of before)) here.action))
 
 -- ---- by a plan that makes the actions

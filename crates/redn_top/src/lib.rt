@@ -10,7 +10,7 @@ mod source;
 mod status;
 mod top;
 
-pub use laws::{accepted_words_are_messages, quiet_runs_have_ended};
+pub use laws::{accepted_words_are_messages, listed_files_come_back, quiet_runs_have_ended};
 pub use redn_command::{Command, MessageWord, Plan, WordsFault, command_of};
 pub use status::{ImageFault, MessageFault, Status, TextFault, status_code, status_line};
 pub use top::redn;

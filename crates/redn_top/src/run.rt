@@ -1,6 +1,6 @@
 //! The run of an image.
 
-ghost use Rattle.std.specs.Prelude.{◌≡◌, ◌^◌, ◌+◌, ◌<◌, ◌++◌, ℕ, suc, true, None, [], ◌∷◌, length, map, IfOk, IfErr, IfSome, OnOk};
+ghost use Rattle.std.specs.Prelude.{◌≡◌, ◌≢◌, ◌^◌, ◌+◌, ◌<◌, ◌++◌, ℕ, suc, true, None, [], ◌∷◌, length, map, IfOk, IfErr, IfSome, OnOk, OnErr};
 ghost use Rattle.std.specs.Option.{option_map};
 ghost use Rattle.redn_words.specs.declared.types.Action.{Action as ActionValue};
 ghost use Rattle.redn_words.specs.Steps.{after, possible};
@@ -49,6 +49,7 @@ fn put_event<K: Sink>(out: &mut K, shown: &Obs) -> Result<(), Status>
         ≡ option_map (λ before. before ++ event_text shown.now) (K.seen out.old).told) }
     ensures refused { IfErr result
         (PutRefused (event_text shown.now) (K.seen out.old) (K.seen out.new)) }
+    ensures some { OnErr result (event_text shown.now ≢ []) }
 {
     if let Obs::Nothing = shown {
         return Ok(());

@@ -4,7 +4,7 @@ use Rattle.redn_command.specs.Words.{Plan, Schedule, plan_view}
 use Rattle.redn_top.specs.Calls.{GrewBy, ReadsMade, run_reads}
 use Rattle.redn_top.specs.Refusals.{RunReadRefused}
 use Rattle.redn_top.proofs.Found.{first_read_refused, second_read_refused}
-use Rattle.redn_top.proofs.CallsMade.{first_unread, second_unread, second_read}
+use Rattle.redn_top.proofs.CallsMade.{first_unread, second_unread}
 use Rattle.redn_top.proofs.reading.read_run.Goals as goal
 
 pub returns-in_err-first-clause-refused : goal.returns-in_err-first-clause-refused

@@ -27,7 +27,7 @@ returns-clause-ends g c =
     let image = c.in_ok-image.image in
     let spells = subst (λ (t : List ℕ). Spells t image) c.deref.ensures.value c.in_ok-image.ensures.spells in
     let accepted = subst (λ (t : List ℕ). NoneHolds (image_reasons (Some t))) c.deref.ensures.value c.in_ok-image.ensures.accepted in
-    disasm_put c.args.name.now (g.S.Store.seen c.args.store.now) (g.S.Store.seen c.read_file.new.store) (g.K.Sink.seen c.args.out.now) c.in_ok-bytes.ensures.stays.told c.in_ok-bytes.bytes.items c.in_ok-bytes.ensures.held image spells accepted c.deref-2.result.now (c.deref-2.ensures.value ∙ c.in_ok-text.ensures) (g.K.Sink.seen c.put_lines.new.out) c.put_lines.result c.put_lines.ensures.ok c.put_lines.ensures.refused
+    disasm_put c.args.name.now (g.S.Store.seen c.args.store.now) (g.S.Store.seen c.read_file.new.store) (g.K.Sink.seen c.args.out.now) c.in_ok-bytes.ensures.stays.told c.in_ok-bytes.bytes.items c.in_ok-bytes.ensures.held image spells accepted c.deref-2.result.now (c.deref-2.ensures.value ∙ c.in_ok-text.ensures.is) (g.K.Sink.seen c.put_lines.new.out) c.put_lines.result c.put_lines.ensures.ok c.put_lines.ensures.refused
 
 pub returns-in_err-bytes-clause-calls : goal.returns-in_err-bytes-clause-calls
 returns-in_err-bytes-clause-calls g c =

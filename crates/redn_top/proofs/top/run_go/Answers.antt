@@ -9,7 +9,7 @@ use Rattle.redn_top.specs.Reasons.{NoneHolds, source_reasons, run_reads}
 use Rattle.redn_top.specs.Refusals.{Refuses, run_of}
 use Rattle.redn_top.proofs.Endings.{go_unread, go_refused, go_unwritten, go_ends, has_text, others_stay}
 use Rattle.redn_command.specs.Words.{Go}
-use Rattle.redn_outside.specs.Calls.{Writes, and_calls}
+use Rattle.redn_outside.specs.Calls.{Writes}
 use Rattle.redn_top.specs.declared.limits.TheConstants.{FILE_LIMIT}
 use Rattle.redn_top.specs.Calls.{reads_of}
 use Rattle.redn_top.proofs.CallsMade.{both, unread_calls, refused_calls, wants_calls, unwritten_calls, run_calls}
