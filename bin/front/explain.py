@@ -16,7 +16,7 @@ sys.dont_write_bytecode = True
 from adapter import Image, Run
 from words import MOST_WORD, VERBS, files, form, messages, wrong_words
 
-TOP = os.path.dirname(os.path.dirname(os.path.dirname(os.path.abspath(__file__))))
+TOP = os.path.dirname(os.path.dirname(os.path.dirname(os.path.realpath(__file__))))
 WIDTH = 72  # of a line that is shown
 MOST_REPLAYED = 200_000
 LIMITS = {"FILE": 1_048_576, "IMAGE": 33_554_432, "LISTING": 268_435_456, "the schedule": 16_777_216}
@@ -215,6 +215,11 @@ TABLE = {2: of_words, 3: of_reads, 4: of_writes, 5: of_length, 6: of_text, 7: of
          12: of_message, 16: of_reads}
 
 
+def printable(line):
+    """A line in which what a name has of other characters is spelled."""
+    return "".join(it if it.isprintable() else repr(it)[1:-1] for it in line)
+
+
 def help_lines():
     begin = ["redn compiles chains of RDMA requests and runs their images in any order of an adapter's steps.", ""]
     forms = [line for verb in VERBS for line in form(verb)[:1]]
@@ -229,7 +234,7 @@ def main(words):
     # An explanation that fails says nothing: the program's own line stands, and its exit code.
     try:
         lines = TABLE[int(status)](line, rest) if int(status) in TABLE else []
-        sys.stderr.write("".join(f"  {it}\n" for it in lines if it))
+        sys.stderr.write("".join(f"  {printable(it)}\n" for it in lines if it))
     except (OSError, ValueError, LookupError, StopIteration):
         pass
 
