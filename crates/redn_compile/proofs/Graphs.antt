@@ -2,13 +2,13 @@
 use Rattle.std.proofs.Common.{◌≡◌, ℕ, zero, suc, ◌+◌, ◌⊎◌, inl, inr, List, [], ◌∷◌, ◌++◌, length, Some, refl, ap, subst, arith, length-append}
 use Rattle.std.specs.Prelude.{Option, unwrap_or, slice_get}
 use Rattle.std.proofs.lemmas.Option.{slice_get_within}
-use Rattle.redn_laps.proofs.LapSteps.{slice_get_append}
+use Rattle.redn_proof_ring.proofs.LapSteps.{slice_get_append}
 use Rattle.redn_kernel.specs.declared.types.TableInit.{TableInit}
 use Rattle.redn_kernel.specs.declared.types.ChainInit.{ChainInit}
 use Rattle.redn_kernel.specs.declared.types.Program.{Program}
 use Rattle.redn_graph.specs.declared.types.Graph.{Graph}
 use Rattle.redn_graph.specs.Follows.{Follows}
-use Rattle.redn_machines.specs.RingSides.{AllFollow}
+use Rattle.redn_proof_interleave.specs.RingSides.{AllFollow}
 use Rattle.redn_emit.specs.Graphs.{IsGraphOf, AreGraphs}
 
 -- what a graph is for its chain

@@ -18,8 +18,8 @@ use Rattle.redn_emit.specs.Graphs.{HasWords}
 use Rattle.redn_emit.specs.Layout.{ChainPlan, code_slots, data_len, entry_row, ring_rows, receive}
 use Rattle.redn_emit.specs.Placed.{IsPlaced, chain_rings, chains_from, data_base, entries_base, plan_at, plans, plans_from, tables_base, regions, queues, memory}
 use Rattle.redn_emit.proofs.PlanRows.{count_rows, count_rings}
-use Rattle.redn_placed.specs.Laws.{AreSound}
-use Rattle.redn_placed.proofs.Lengths.{count, total, same, size_is}
+use Rattle.redn_proof_layout.specs.PlacedLaws.{AreSound}
+use Rattle.redn_proof_layout.proofs.Lengths.{count, total, same, size_is}
 
 pub header_len : (r q c m : ℕ) → length (spelled_header r q c m) ≡ 32
 unfolding spelled

@@ -4,7 +4,7 @@ ghost use Rattle.std.specs.Prelude.{◌≤◌, length, IfOk};
 ghost use Rattle.redn_kernel.specs.Program.{IsSound};
 ghost use Rattle.redn_image.specs.Faithful.{Faithful};
 ghost use Rattle.redn_image.specs.Spelling.{spelling};
-ghost use Rattle.redn_machines.specs.RingSides.{AllFollow};
+ghost use Rattle.redn_proof_interleave.specs.RingSides.{AllFollow};
 ghost use Rattle.redn_emit.specs.Graphs.{AreGraphs};
 
 use crate::numbers::has_numbers;
@@ -12,8 +12,8 @@ use redn_emit::emit;
 use redn_graph::{Graph, graph};
 use redn_image::Image;
 use redn_kernel::Program;
+use redn_proof_layout::emitted_are_faithful;
 use redn_words::Memory;
-use redn_worlds::emitted_are_faithful;
 use std::alloc::Global;
 
 /// The graphs of a program's chains, in their order.

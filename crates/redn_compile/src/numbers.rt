@@ -2,8 +2,8 @@
 
 ghost use Rattle.std.specs.Prelude.{◌<◌, ◌^◌};
 ghost use Rattle.std.specs.List.{All};
-ghost use Rattle.redn_window.specs.Scripts.{IsBytes};
-ghost use Rattle.redn_worlds.specs.Laws.{HasNumbers};
+ghost use Rattle.redn_proof_window.specs.Scripts.{IsBytes};
+ghost use Rattle.redn_proof_layout.specs.ImageLaws.{HasNumbers};
 
 use redn_kernel::{ChainInit, Program, TableInit};
 

@@ -5,7 +5,7 @@ use Rattle.redn_image.specs.Rules.{Image}
 use Rattle.redn_image.specs.Spelling.{spelling}
 use Rattle.redn_emit.specs.Placed.{IsPlaced}
 use Rattle.redn_emit.specs.Graphs.{AreGraphs}
-use Rattle.redn_placed.specs.Laws.{AreSound}
+use Rattle.redn_proof_layout.specs.PlacedLaws.{AreSound}
 use Rattle.redn_compile.proofs.Small.{placed_small}
 use Rattle.redn_compile.proofs.image.compile.Goals as goal
 

@@ -3,7 +3,7 @@ use Rattle.std.proofs.lemmas.List.{take_all}
 use Rattle.std.specs.List.{All}
 use Rattle.std.specs.Prelude.{List}
 use Rattle.redn_kernel.specs.declared.types.TableInit.{TableInit}
-use Rattle.redn_window.specs.Scripts.{IsBytes}
+use Rattle.redn_proof_window.specs.Scripts.{IsBytes}
 use Rattle.redn_block.proofs.Slots.{all_next}
 use Rattle.redn_compile.proofs.numbers.tables_have_bytes.Goals as goal
 

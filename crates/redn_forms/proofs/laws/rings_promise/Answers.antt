@@ -1,5 +1,0 @@
-use Rattle.redn_forms.proofs.Promising as proofs
-use Rattle.redn_forms.proofs.laws.rings_promise.Goals as goal
-
-pub returns : goal.returns
-returns g c = proofs.rings_promise g.R.ChainRings.together g.R.ChainRings.number g.R.ChainRings.among

@@ -1,4 +1,0 @@
-pub mod Homes
-pub mod Requested
-pub mod Segments
-pub mod Laws

@@ -1,6 +1,0 @@
-pub mod Messages
-pub mod GraphMachines
-pub mod GraphHeadline
-pub mod GraphOrders
-pub mod SilentSteps
-mod WorkedGraphs

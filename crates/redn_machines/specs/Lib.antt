@@ -1,4 +1,0 @@
-pub mod GraphMachines
-pub mod RingSides
-pub mod FaithfulToGraphs
-pub mod Laws

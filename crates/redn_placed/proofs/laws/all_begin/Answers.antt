@@ -1,9 +1,0 @@
-use Rattle.redn_placed.proofs.FirstSeen as proofs
-use Rattle.redn_placed.proofs.FirstBytes as bytes
-use Rattle.redn_placed.proofs.laws.all_begin.Goals as goal
-
-pub returns-clause-begin : goal.returns-clause-begin
-returns-clause-begin c = proofs.all_begin
-
-pub returns-clause-bytes : goal.returns-clause-bytes
-returns-clause-bytes c = bytes.all_bytes

@@ -1,8 +1,0 @@
-use Rattle.redn_placed.proofs.Queues as proofs
-use Rattle.redn_placed.proofs.laws.all_queues_stand.Goals as goal
-
-pub returns-clause-queues : goal.returns-clause-queues
-returns-clause-queues c = proofs.all_queues_stand
-
-pub returns-clause-entered : goal.returns-clause-entered
-returns-clause-entered c = proofs.all_entered

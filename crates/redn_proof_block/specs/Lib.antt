@@ -1,0 +1,10 @@
+pub mod Names
+pub mod Laps
+pub mod Truth
+pub mod Left
+pub mod Parts
+pub mod Shares
+pub mod Stages
+pub mod Laying
+pub mod Beginnings
+pub mod CourseLaws

@@ -1,0 +1,10 @@
+pub mod Machines
+pub mod Forms
+pub mod Explains
+pub mod Sources
+pub mod Compiled
+pub mod ChainLaws
+pub mod GraphMachines
+pub mod RingSides
+pub mod FaithfulToGraphs
+pub mod GraphLaws

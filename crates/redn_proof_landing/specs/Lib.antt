@@ -1,0 +1,4 @@
+pub mod Homes
+pub mod Requested
+pub mod Segments
+pub mod LandingLaws

@@ -1,5 +1,0 @@
-use Rattle.redn_worlds.proofs.Orders as orders
-use Rattle.redn_worlds.proofs.laws.emitted_are_faithful_to_graphs.Goals as goal
-
-pub returns : goal.returns
-returns c = orders.emitted_follow_graphs
