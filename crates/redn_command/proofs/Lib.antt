@@ -1,5 +1,6 @@
 pub mod Parts
-pub mod Taking
 pub mod MessageTexts
 pub mod OneCommand
 mod Worked
+pub mod Matching
+mod WorkedMatch

@@ -1,13 +1,12 @@
 -- Words that give messages.
-use Rattle.std.proofs.Common.{◌≡◌, ℕ, zero, suc, ◌+◌, ◌^◌, ◌<◌, ◌==◌, Bool, true, false, cond, not, List, [], ◌∷◌, ◌++◌, map, length, take, get_or, decimal, refl, sym, ap, subst, ◌∙◌, arith, length-append}
-use Rattle.std.specs.Prelude.{All, String, string_bytes}
+use Rattle.std.proofs.Common.{◌≡◌, ℕ, ◌+◌, ◌<◌, ◌==◌, Bool, true, false, cond, not, List, [], ◌∷◌, ◌++◌, map, length, take, get_or, decimal, refl, sym, ap, ◌∙◌, arith, length-append}
+use Rattle.std.specs.Prelude.{All}
 use Rattle.std.specs.List.{list_all, position_or_len, before_first}
-use Rattle.std.proofs.lemmas.Bool.Decides.{nat_tests}
 use Rattle.std.proofs.lemmas.Fmt.{decimal_injective}
 use Rattle.std.proofs.lemmas.List.{get_or-map, length-map, take_at}
 use Rattle.std.proofs.lemmas.List.Elements.{All-get_or, All-head, All-tail}
-use Rattle.redn_sched.specs.Lines.{is_not, IsSplit}
-use Rattle.redn_sched.proofs.Fields.{and_left, and_right, decimal_all, equals_is_no_digit, same_split}
+use Rattle.redn_text.specs.Texts.{is_not, IsSplit}
+use Rattle.redn_text.proofs.Fields.{and_left, and_right, decimal_all, equals_is_no_digit, same_split}
 use Rattle.redn_command.specs.Words.{MessageWord, IsMessageWord, HasSmallChain, message_text}
 
 pub message_split : (word : List ℕ) (m : MessageWord) → IsMessageWord word m → IsSplit 61 word (decimal m.chain) m.digits

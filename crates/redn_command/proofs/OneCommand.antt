@@ -1,13 +1,12 @@
 -- Words mean one command.
 use Rattle.std.proofs.Common.{◌≡◌, ℕ, ◌^◌, ◌<◌, ◌≤◌, List, [], ◌∷◌, map, Option, Some, None, decimal, length, get_or, refl, sym, ap, subst, ◌∙◌, arith}
-use Rattle.std.specs.Prelude.{All, Result, Ok, Err, IfOk}
+use Rattle.std.specs.Prelude.{Result, Ok, Err, IfOk}
 use Rattle.redn_command.specs.declared.command.Command.{Command as CommandView}
 use Rattle.redn_command.specs.declared.command.WordsFault.{WordsFault}
 use Rattle.std.specs.Option.{option_to_list}
 use Rattle.std.proofs.lemmas.Fmt.{decimal_injective}
-use Rattle.redn_command.specs.declared.line.Choice.{Choice}
 use Rattle.redn_command.specs.declared.line.Choice.TheVariants as choice
-use Rattle.redn_command.specs.Words.{Command, Check, Compile, Run, Go, Disasm, Assemble, Gen, Plan, Schedule, Fair, Shuffle, RunWords, MessageWord, Line, values, verb_of, positions_of, most_steps, GivesNone, GivesSchedule, GivesFair, GivesShuffle, GivesPlan, Gives, Means, IsLine, IsCommand, command_view}
+use Rattle.redn_command.specs.Words.{Command, Check, Compile, Run, Go, Disasm, Assemble, Gen, Plan, Schedule, Fair, Shuffle, RunWords, MessageWord, Line, verb_of, most_steps, GivesNone, GivesPlan, Means, IsLine, IsCommand, command_view}
 use Rattle.redn_command.specs.Lines.{GivesOnce}
 use Rattle.redn_command.proofs.MessageTexts.{same_messages}
 use Rattle.redn_command.proofs.Parts.{one_line}
@@ -142,14 +141,8 @@ module _ (words : List (List ℕ)) (verb : List ℕ) (rest : List (List ℕ)) (a
     pub line_refused : ((c : Command) → verb_of c ≡ verb → ¬ Means line c) → (c : Command) → ¬ IsCommand words c
     line_refused h c is = h c (behind_verb c is).0 (on_line c is)
 
-    pub line_command : (c : Command) → verb_of c ≡ verb → Means line c → IsCommand words c
-    line_command c e m = record { behind = rest; line = line; are = are ∙ ap (λ (v : List ℕ). v ∷ rest) (sym e); cut = cut; means = m }
-
     pub line_only : (c : Command) → verb_of c ≡ verb → Means line c → (d : Command) → IsCommand words d → d ≡ c
     line_only c e m d is = one_meaning line d c (on_line d is) m ((behind_verb d is).0 ∙ sym e)
-
-pub no_words_refused : (words : List (List ℕ)) → words ≡ [] → (c : Command) → ¬ IsCommand words c
-no_words_refused words e c is = let f : verb_of c ∷ is.behind ≡ [] = sym is.are ∙ e in cc
 
 pub only_of : (words : List (List ℕ)) (verb : List ℕ) (rest : List (List ℕ)) → words ≡ verb ∷ rest → (line : Line) → IsLine rest line → (r : Result CommandView WordsFault) → IfOk r (λ c. verb_of (command_view c) ≡ verb) → IfOk r (λ c. Means line (command_view c)) → IfOk r (λ c. (d : Command) → IsCommand words d → d ≡ command_view c)
 only_of words verb rest are line cut (Ok c) e m = λ d is. line_only words verb rest are line cut (command_view c) e m d is

@@ -1,13 +1,12 @@
 -- Words are parts in one way.
-use Rattle.std.proofs.Common.{◌≡◌, ◌≢◌, ℕ, ◌+◌, ◌<◌, ◌≤◌, ◌==◌, true, false, cond, List, [], ◌∷◌, ◌++◌, length, map, Option, Some, None, refl, sym, ap, subst, ◌∙◌, inl, inr, arith, append_assoc, append-nil}
-use Rattle.std.specs.Prelude.{All, codes, is_some, IsSome, slice_index_or, slice_set}
+use Rattle.std.proofs.Common.{◌≡◌, ◌≢◌, ℕ, Bool, true, false, List, [], ◌∷◌, ◌++◌, refl, sym, ap, subst, ◌∙◌, arith, append_assoc, append-nil}
+use Rattle.std.specs.Prelude.{All}
 use Rattle.std.specs.List.{flat_map}
-use Rattle.std.specs.Option.{option_to_list}
 use Rattle.std.proofs.lemmas.List.Elements.{All-head, All-tail, All-nil, All-cons, All-append}
 use Rattle.redn_command.specs.declared.line.Choice.{Choice}
 use Rattle.redn_command.specs.declared.line.Choice.TheVariants as choice
-use Rattle.redn_command.specs.Words.{IsName, option_text, Given, Part, AnOption, APosition, words_of_part, IsPart, options_in, positions_in, number_of, value_for, Line, line_of, IsLine, values}
-use Rattle.redn_command.specs.Lines.{GivesOnce, GivesTwice, TakesOption, TakesPart}
+use Rattle.redn_command.specs.Lines.{AreParts}
+use Rattle.redn_command.specs.Words.{IsName, option_text, Given, Part, AnOption, APosition, words_of_part, IsPart, Line, line_of, IsLine}
 
 -- an option's text is no name
 pub option_no_name : (c : Choice) → ¬ IsName (option_text c)
@@ -16,10 +15,6 @@ option_no_name choice.Fair h = h refl
 option_no_name choice.Shuffle h = h refl
 option_no_name choice.Steps h = h refl
 option_no_name choice.Record h = h refl
-
-byte_at_2 : List ℕ → ℕ
-byte_at_2 (a ∷ b ∷ c ∷ rest) = c
-byte_at_2 _ = 0
 
 byte_at_3 : List ℕ → ℕ
 byte_at_3 (a ∷ b ∷ c ∷ d ∷ rest) = d
@@ -66,9 +61,6 @@ begins (APosition w ∷ p) (AnOption h ∷ q) rest a b e =
     let word : w ≡ option_text h.option = cc in
     absurd (option_no_name h.option (subst IsName word (All-head IsPart (APosition w) p a)))
 
-pub parts_begin : (p q : List Part) (rest : List (List ℕ)) → All IsPart p → All IsPart q → flat_map words_of_part p ++ rest ≡ flat_map words_of_part q → (more : List Part) × (q ≡ p ++ more) × (rest ≡ flat_map words_of_part more)
-parts_begin p q rest a b e = begins p q rest a b e
-
 no_words : (p : List Part) → [] ≡ flat_map words_of_part p → p ≡ []
 no_words [] e = refl
 no_words (AnOption g ∷ p) e = absurd (cc)
@@ -86,3 +78,85 @@ one_line words a b h k =
     let given : (n : ℕ) → a.given n ≡ b.given n = λ n. h.given n ∙ ap (λ (p : List Part). (line_of p).given n) same ∙ sym (k.given n) in
     let positions : a.positions ≡ b.positions = h.positions ∙ ap (λ (p : List Part). (line_of p).positions) same ∙ sym k.positions in
     λ i. record { given = λ n. given n i; positions = positions i }
+
+-- ---- words that are looked at one by one
+
+-- what is open behind the parts that were seen: nothing, or an option that wants its value
+abbrev pub IsOpen : Bool → List (List ℕ) → List (List ℕ) → Type 0
+IsOpen false ws rest = ws ≡ rest
+IsOpen true ws rest = (c : Choice) × (ws ≡ option_text c ∷ rest)
+
+pub record Seen (words rest : List (List ℕ)) (wants : Bool) : Type 0 where
+  pub done : List Part
+  pub names : All IsPart done
+  pub open_words : List (List ℕ)
+  pub are : words ≡ flat_map words_of_part done ++ open_words
+  pub is_open : IsOpen wants open_words rest
+
+flat_map-append : {X Y : Type 0} (f : X → List Y) (xs ys : List X) → flat_map f (xs ++ ys) ≡ flat_map f xs ++ flat_map f ys
+flat_map-append f [] ys = refl
+flat_map-append f (x ∷ xs) ys = ap (λ l. f x ++ l) (flat_map-append f xs ys) ∙ sym (append_assoc (f x) (flat_map f xs) (flat_map f ys))
+
+one_more : (done : List Part) (p : Part) (rest : List (List ℕ)) → flat_map words_of_part done ++ (words_of_part p ++ rest) ≡ flat_map words_of_part (done ++ p ∷ []) ++ rest
+one_more done p rest =
+    sym (append_assoc (flat_map words_of_part done) (words_of_part p) rest)
+    ∙ ap (λ (l : List (List ℕ)). (flat_map words_of_part done ++ l) ++ rest) (sym (append-nil (words_of_part p)))
+    ∙ ap (λ (l : List (List ℕ)). l ++ rest) (sym (flat_map-append words_of_part done (p ∷ [])))
+
+with_part : (words rest : List (List ℕ)) (done : List Part) (p : Part) → All IsPart done → IsPart p → words ≡ flat_map words_of_part done ++ (words_of_part p ++ rest) → Seen words rest false
+with_part words rest done p all named are =
+    record { done = done ++ p ∷ []; names = All-append IsPart done (p ∷ []) all (All-cons IsPart p [] named (All-nil IsPart)); open_words = rest; are = are ∙ one_more done p rest; is_open = refl }
+
+pub name_seen : (words rest : List (List ℕ)) (w : List ℕ) (wants : Bool) → IsName w → Seen words (w ∷ rest) wants → Seen words rest false
+name_seen words rest w false named s = with_part words rest s.done (APosition w) s.names named (s.are ∙ ap (λ (l : List (List ℕ)). flat_map words_of_part s.done ++ l) s.is_open)
+name_seen words rest w true named s =
+    with_part words rest s.done (AnOption (record { option = s.is_open.0; value = w })) s.names named (s.are ∙ ap (λ (l : List (List ℕ)). flat_map words_of_part s.done ++ l) s.is_open.1)
+
+pub option_seen : (words rest : List (List ℕ)) (c : Choice) → Seen words (option_text c ∷ rest) false → Seen words rest true
+option_seen words rest c s = record { done = s.done; names = s.names; open_words = s.open_words; are = s.are; is_open = (c, s.is_open) }
+
+all_behind : (a b : List Part) → All IsPart (a ++ b) → All IsPart b
+all_behind [] b all = all
+all_behind (p ∷ a) b all = all_behind a b (All-tail IsPart p (a ++ b) all)
+
+-- what is open is parts too, if all is
+open_parts : (words rest : List (List ℕ)) (wants : Bool) (s : Seen words rest wants) (parts : List Part) → AreParts words parts → (more : List Part) × (s.open_words ≡ flat_map words_of_part more) × All IsPart more
+open_parts words rest wants s parts a =
+    let r = begins s.done parts s.open_words s.names a.names (sym s.are ∙ a.are) in
+    (r.0, r.2, all_behind s.done r.0 (subst (All IsPart) r.1 a.names))
+
+-- an option's value is behind it
+value_behind : (c : Choice) (rest : List (List ℕ)) (more : List Part) → All IsPart more → option_text c ∷ rest ≡ flat_map words_of_part more → (v : List ℕ) × (behind : List (List ℕ)) × (rest ≡ v ∷ behind) × IsName v
+value_behind c rest [] all e = absurd (cc)
+value_behind c rest (APosition w ∷ more) all e =
+    let word : w ≡ option_text c = cc in
+    absurd (option_no_name c (subst IsName word (All-head IsPart (APosition w) more all)))
+value_behind c rest (AnOption g ∷ more) all e =
+    let behind : rest ≡ g.value ∷ flat_map words_of_part more = cc in
+    (g.value, flat_map words_of_part more, behind, All-head IsPart (AnOption g) more all)
+
+word_first : (w : List ℕ) (rest : List (List ℕ)) (more : List Part) → All IsPart more → w ∷ rest ≡ flat_map words_of_part more → ((c : Choice) → w ≢ option_text c) → IsName w
+word_first w rest [] all e no_option = absurd (cc)
+word_first w rest (AnOption g ∷ more) all e no_option = absurd (no_option g.option (cc))
+word_first w rest (APosition v ∷ more) all e no_option =
+    let word : v ≡ w = cc in
+    subst IsName word (All-head IsPart (APosition v) more all)
+
+pub value_is_name : (words rest : List (List ℕ)) (w : List ℕ) → Seen words (w ∷ rest) true → (parts : List Part) → AreParts words parts → IsName w
+value_is_name words rest w s parts a =
+    let o = open_parts words (w ∷ rest) true s parts a in
+    let v = value_behind s.is_open.0 (w ∷ rest) o.0 o.2 (sym s.is_open.1 ∙ o.1) in
+    let same : v.0 ≡ w = cc in
+    subst IsName same v.3
+
+pub word_is_name : (words rest : List (List ℕ)) (w : List ℕ) → Seen words (w ∷ rest) false → ((c : Choice) → w ≢ option_text c) → (parts : List Part) → AreParts words parts → IsName w
+word_is_name words rest w s no_option parts a =
+    let o = open_parts words (w ∷ rest) false s parts a in
+    word_first w rest o.0 o.2 (sym s.is_open ∙ o.1) no_option
+
+pub no_value : (words : List (List ℕ)) → Seen words [] true → (parts : List Part) → ¬ AreParts words parts
+no_value words s parts a =
+    let o = open_parts words [] true s parts a in
+    let v = value_behind s.is_open.0 [] o.0 o.2 (sym s.is_open.1 ∙ o.1) in
+    let none : [] ≡ v.0 ∷ v.1 = v.2 in
+    cc

@@ -1,15 +1,22 @@
 -- A line of words while it is read.
-use Rattle.std.specs.Prelude.{◌≡◌, ℕ, ◌≤◌, ◌<◌, List, [], ◌∷◌, ◌++◌, length, map, All, Option, Some, None, slice_index_or, slice_set}
+use Rattle.std.specs.Prelude.{◌≡◌, ℕ, ◌≤◌, List, [], ◌∷◌, length, map, All, Option, Some, None, true, codes, slice_index_or, unwrap_or}
 use Rattle.std.specs.List.{flat_map}
 use Rattle.std.specs.Option.{option_map, option_to_list}
+use Rattle.clap.specs.Words.{App, Rule, Text, first_value, found_of, matched_of, new_app, new_rule, raw_values, with_rule}
+use Rattle.clap.specs.declared.builder.action.ArgAction.TheVariants.{Append, Set}
+use Rattle.clap.specs.declared.parser.matches.ArgMatches.{ArgMatches}
 use Rattle.redn_command.specs.declared.line.Choice.{Choice}
+use Rattle.redn_command.specs.declared.line.Choice.TheVariants as choice
 use Rattle.redn_command.specs.declared.line.Options.{Options}
 use Rattle.redn_command.specs.declared.line.Line.{Line as LineView}
-use Rattle.redn_command.specs.Words.{IsName, IsPart, Line, Part, line_of, number_of, options_in, positions_in, value_for, values, words_of_part}
+use Rattle.redn_command.specs.Words.{IsPart, Line, Part, values, words_of_part}
 
 -- the values of options by their numbers
 abbrev pub slots : Options → List (Option (List ℕ))
-slots o = option_map (λ s. s.now) o.schedule ∷ option_map (λ s. s.now) o.fair ∷ option_map (λ s. s.now) o.shuffle ∷ option_map (λ s. s.now) o.steps ∷ option_map (λ s. s.now) o.«record» ∷ []
+slots o =
+    option_map (λ s. s.now) o.schedule
+    ∷ option_map (λ s. s.now) o.fair
+    ∷ option_map (λ s. s.now) o.shuffle ∷ option_map (λ s. s.now) o.steps ∷ option_map (λ s. s.now) o.«record» ∷ []
 
 -- a line as it is kept
 abbrev pub line_view : LineView → Line
@@ -23,23 +30,47 @@ GivesOnce line = (c : Choice) → length (values c line) ≤ 1
 abbrev pub keep_view : LineView → Option (List ℕ)
 keep_view l = option_map (λ s. s.now) l.options.«record»
 
--- the first of some words is the value of an option that wasn't given, and these stand behind it
-pub record TakesOption (before : List (Option (List ℕ))) (c : Choice) (words : List (List ℕ)) (now : List (Option (List ℕ))) (behind : List (List ℕ)) : Type 0 where
-  pub value : List ℕ
-  pub named : IsName value
-  pub are : words ≡ value ∷ behind
-  pub first : slice_index_or before (number_of c) None ≡ None
-  pub with_it : now ≡ slice_set before (number_of c) (Some value)
+-- words are these parts
+pub record AreParts (words : List (List ℕ)) (parts : List Part) : Type 0 where
+  pub are : words ≡ flat_map words_of_part parts
+  pub names : All IsPart parts
 
--- the part at the front of some words, and the words behind it
-pub record TakesPart (before : Line) (words : List (List ℕ)) (now : Line) (behind : List (List ℕ)) : Type 0 where
-  pub part : Part
-  pub is : IsPart part
-  pub are : words ≡ words_of_part part ++ behind
-  pub given : (n : ℕ) → now.given n ≡ before.given n ++ flat_map (value_for n) (options_in part)
-  pub positions : now.positions ≡ before.positions ++ positions_in part
+-- ---- the command of `clap` that cuts a line
 
--- whatever parts some words are, an option stands twice with them
-abbrev pub GivesTwice : Line → List (List ℕ) → Type 0
-GivesTwice before words =
-    (parts : List Part) → All IsPart parts → words ≡ flat_map words_of_part parts → (c : Choice) × (1 < length (values c before ++ values c (line_of parts)))
+-- an option without its dashes
+abbrev pub option_name : Choice → Text
+option_name choice.Schedule = codes "schedule"
+option_name choice.Fair = codes "fair"
+option_name choice.Shuffle = codes "shuffle"
+option_name choice.Steps = codes "steps"
+option_name choice.Record = codes "record"
+
+abbrev pub positions_name : Text
+positions_name = codes "positions"
+
+-- an option that takes one value
+abbrev pub option_rule : Text → Rule
+option_rule name = record (new_rule name) { long = Some name; action = Some Set }
+
+-- positions, any number of them
+abbrev pub positions_rule : Rule
+positions_rule = record (new_rule positions_name) { action = Some Append }
+
+-- no word is the program's, and none asks for help
+abbrev pub bare_app : App
+bare_app = let a = new_app (codes "redn") in record a { top = record a.top { no_binary_name = true; disable_help_flag = true } }
+
+abbrev pub with_option : App → Choice → App
+with_option a c = with_rule a (option_rule (option_name c))
+
+abbrev pub with_options : App → App
+with_options a =
+    with_option (with_option (with_option (with_option (with_option a choice.Schedule) choice.Fair) choice.Shuffle) choice.Steps) choice.Record
+
+abbrev pub line_app : App
+line_app = with_rule (with_options bare_app) positions_rule
+
+-- matches that hold what a line gives: no option stands twice
+pub record IsMatchOf (line : Line) (m : ArgMatches) : Type 0 where
+  pub given : (c : Choice) → option_to_list (first_value (found_of m) (option_name c)) ≡ values c line
+  pub positions : unwrap_or (option_map raw_values (matched_of (found_of m) positions_name)) [] ≡ line.positions

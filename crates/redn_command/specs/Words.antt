@@ -2,7 +2,7 @@
 use Rattle.std.specs.Prelude.{◌≡◌, ℕ, ◌^◌, ◌<◌, ◌≤◌, ◌==◌, if◌then◌else◌, List, [], ◌∷◌, ◌++◌, map, All, Option, Some, None, codes, decimal, string_bytes}
 use Rattle.std.specs.List.{flat_map}
 use Rattle.std.specs.Option.{option_map, option_to_list}
-use Rattle.redn_command.specs.declared.limits.TheConstants.{MOST_STEPS, MOST_RECORDED}
+use Rattle.redn_command.specs.declared.limits.TheConstants.{MAX_STEPS, MAX_RECORDED}
 use Rattle.redn_command.specs.declared.line.Choice.{Choice}
 use Rattle.redn_command.specs.declared.line.Choice.TheVariants as choice
 use Rattle.redn_command.specs.declared.command.MessageWord.{MessageWord as MessageView}
@@ -152,8 +152,8 @@ pub record GivesSchedule (line : Line) (file : List ℕ) (keep : Option (List �
 
 -- fewer steps may be recorded than made
 abbrev pub most_steps : Option (List ℕ) → ℕ
-most_steps None = MOST_STEPS
-most_steps (Some file) = MOST_RECORDED
+most_steps None = MAX_STEPS
+most_steps (Some file) = MAX_RECORDED
 
 -- `--fair N`, and perhaps `--record F`
 pub record GivesFair (line : Line) (n : ℕ) (keep : Option (List ℕ)) : Type 0 where

@@ -8,5 +8,5 @@ mod plan;
 mod verbs;
 
 pub use command::{Command, MessageWord, Plan, WordsFault};
-pub use limits::{MOST_RECORDED, MOST_STEPS};
+pub use limits::{MAX_RECORDED, MAX_STEPS};
 pub use verbs::command_of;

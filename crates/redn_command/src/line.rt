@@ -1,12 +1,14 @@
 //! Words as options with their values, and positions.
 
-ghost use Rattle.std.specs.Prelude.{◌≡◌, ◌≢◌, ◌↔◌, ◌<◌, ◌∷◌, ℕ, List, length, None, Some, Err, IfOk, IfSome, IfNone, IsSome, IsTrue, map, replicate, slice_index_or, slice_set, string_bytes};
-ghost use Rattle.std.specs.Option.{option_map};
-ghost use Rattle.redn_command.specs.Words.{IsLine, IsName, Line as LineValue, number_of, option_text};
-ghost use Rattle.redn_command.specs.Lines.{GivesOnce, GivesTwice, TakesOption, TakesPart, line_view, slots};
+ghost use Rattle.std.specs.Prelude.{◌≡◌, ◌≢◌, ◌↔◌, List, Err, IfOk, IsTrue, false, map, string_bytes};
+ghost use Rattle.clap.specs.Words.{app_of, kind_of, rule_of};
+ghost use Rattle.redn_command.specs.Words.{IsLine, IsName, Line as LineValue, Part, line_of, option_text};
+ghost use Rattle.redn_command.specs.Lines.{AreParts, GivesOnce, IsMatchOf, line_app, line_view, option_name, option_rule};
 
 use crate::command::WordsFault;
-use std::alloc::Global;
+use clap::error::ErrorKind;
+use clap::{Arg, ArgAction, ArgMatches, Command};
+use std::alloc::{AllocError, Global};
 
 /// The options of a run.
 #[derive(Clone, Copy)]
@@ -35,8 +37,11 @@ pub struct Line<'a> {
     pub positions: Vec<&'a str>,
 }
 
+/// What the positions are called in the matches.
+const POSITIONS: &str = "positions";
+
 /// Whether a word can be a file's name: it isn't empty and is no option.
-pub fn is_name(word: &str) -> bool
+fn is_name(word: &str) -> bool
     ensures { IsTrue result ↔ IsName word.now }
 {
     match word.as_bytes() {
@@ -45,123 +50,97 @@ pub fn is_name(word: &str) -> bool
     }
 }
 
-/// The option that a word is, if it is one.
-fn option_of(word: &str) -> Option<Choice>
-    ensures found { IfSome result (λ c. word.now ≡ option_text c) }
-    ensures none { IfNone result ((c : _) → word.now ≢ option_text c) }
+/// Whether a word is one of the options.
+fn is_option(word: &str) -> bool
+    ensures yes { IsTrue result → (c : Choice) × (word.now ≡ option_text c) }
+    ensures no { (c : Choice) → word.now ≡ option_text c → IsTrue result }
 {
-    match word {
-        "--schedule" => Some(Choice::Schedule),
-        "--fair" => Some(Choice::Fair),
-        "--shuffle" => Some(Choice::Shuffle),
-        "--steps" => Some(Choice::Steps),
-        "--record" => Some(Choice::Record),
-        _ => None,
-    }
+    matches!(
+        word,
+        "--schedule" | "--fair" | "--shuffle" | "--steps" | "--record"
+    )
 }
 
-/// No option.
-fn no_options<'a>() -> Options<'a>
-    ensures { slots result ≡ replicate 5 None }
+/// Whether words are names and options, each with a name behind it.
+fn are_parts(words: &[String]) -> bool
+    ensures yes { IsTrue result → (parts : List Part) × AreParts (map string_bytes words.now) parts }
+    ensures no { (parts : List Part) → AreParts (map string_bytes words.now) parts → IsTrue result }
 {
-    Options {
-        schedule: None,
-        fair: None,
-        shuffle: None,
-        steps: None,
-        record: None,
+    let mut wants_value = false;
+    for word in words {
+        if is_name(word) {
+            wants_value = false;
+        } else {
+            if wants_value {
+                return false;
+            }
+            if !is_option(word) {
+                return false;
+            }
+            wants_value = true;
+        }
     }
+    !wants_value
 }
 
-/// The value of an option, if it is given.
-fn value_of<'a>(options: &Options<'a>, choice: Choice) -> Option<&'a str>
-    ensures { option_map (λ s. s.now) result ≡ slice_index_or (slots options.now) (number_of choice) None }
+/// The name of an option, without dashes.
+fn name_of<'a>(choice: Choice) -> &'a str
+    ensures { result.now ≡ option_name choice }
 {
     match choice {
-        Choice::Schedule => options.schedule,
-        Choice::Fair => options.fair,
-        Choice::Shuffle => options.shuffle,
-        Choice::Steps => options.steps,
-        Choice::Record => options.record,
+        Choice::Schedule => "schedule",
+        Choice::Fair => "fair",
+        Choice::Shuffle => "shuffle",
+        Choice::Steps => "steps",
+        Choice::Record => "record",
     }
 }
 
-/// Options with this one given.
-fn with_option<'a>(options: Options<'a>, choice: Choice, value: &'a str) -> Options<'a>
-    ensures { slots result ≡ slice_set (slots options.entry) (number_of choice) (Some value.now) }
+/// An option that takes one value.
+fn option_arg<'a>(alloc: Global, name: &'a str) -> Arg<'a>
+    ensures rule { rule_of result ≡ option_rule name.entry.now }
+    ensures local { result.global ≡ false }
 {
-    let value = Some(value);
-    match choice {
-        Choice::Schedule => Options {
-            schedule: value,
-            ..options
-        },
-        Choice::Fair => Options {
-            fair: value,
-            ..options
-        },
-        Choice::Shuffle => Options {
-            shuffle: value,
-            ..options
-        },
-        Choice::Steps => Options {
-            steps: value,
-            ..options
-        },
-        Choice::Record => Options {
-            record: value,
-            ..options
-        },
+    Arg::new(alloc, name).long(name).action(ArgAction::Set)
+}
+
+/// Options and positions, in any order. Which of them a verb takes is looked at later.
+fn line_command<'a>(alloc: Global) -> Result<Command<'a>, AllocError>
+    ensures { IfOk result (λ c. app_of c ≡ line_app) }
+{
+    let positions = Arg::new(alloc, POSITIONS).action(ArgAction::Append);
+    Command::new(alloc, "redn")
+        .no_binary_name(true)
+        .disable_help_flag(true)
+        .arg(option_arg(alloc, name_of(Choice::Schedule)))?
+        .arg(option_arg(alloc, name_of(Choice::Fair)))?
+        .arg(option_arg(alloc, name_of(Choice::Shuffle)))?
+        .arg(option_arg(alloc, name_of(Choice::Steps)))?
+        .arg(option_arg(alloc, name_of(Choice::Record)))?
+        .arg(positions)
+}
+
+/// What an error of the match comes to.
+fn fault_of(error: &clap::Error) -> WordsFault
+    ensures { result ≡ WordsFault.Refused → kind_of error.now ≢ ErrorKind.OutOfMemory }
+{
+    match error.kind() {
+        ErrorKind::OutOfMemory => WordsFault::Memory,
+        _ => WordsFault::Refused,
     }
 }
 
-/// Options with one more, whose value is the first of some words, and the words behind it.
-fn take_option<'a>(
-    options: Options<'a>,
-    choice: Choice,
-    words: &'a [String],
-) -> Result<(Options<'a>, &'a [String]), WordsFault>
-    ensures taken { IfOk result (λ p. TakesOption (slots options.entry) choice (map string_bytes words.now)
-        (slots p.0) (map string_bytes p.1.now)) }
-    ensures shorter { IfOk result (λ p. length p.1.now < length words.now) }
-    ensures refused { result ≡ Err WordsFault.Refused → (value : List ℕ) (behind : List (List ℕ)) → IsName value
-        → map string_bytes words.now ≡ value ∷ behind → IsSome (slice_index_or (slots options.entry) (number_of choice) None) }
+/// The options and positions of words that are parts. It is refused only where an option stands twice.
+fn matches_of<'a>(alloc: Global, words: &'a [String]) -> Result<ArgMatches<'a>, WordsFault>
+    ensures matches { IfOk result (λ m. (parts : List Part) → AreParts (map string_bytes words.now) parts
+        → IsMatchOf (line_of parts) m) }
+    ensures refused { result ≡ Err WordsFault.Refused → (parts : List Part) → AreParts (map string_bytes words.now) parts
+        → ¬ GivesOnce (line_of parts) }
 {
-    let Some((value, behind)) = words.split_first() else {
-        return Err(WordsFault::Refused);
-    };
-    if !is_name(value.as_str()) || value_of(&options, choice).is_some() {
-        return Err(WordsFault::Refused);
-    }
-    Ok((with_option(options, choice, value.as_str()), behind))
-}
-
-/// Takes the part at the front of some words, an option with its value or a position.
-fn take_part<'a>(
-    line: Line<'a>,
-    words: &'a [String],
-) -> Result<(Line<'a>, &'a [String]), WordsFault>
-    requires { 0 < length words.now }
-    ensures taken { IfOk result (λ p. TakesPart (line_view line.entry) (map string_bytes words.now)
-        (line_view p.0) (map string_bytes p.1.now)) }
-    ensures shorter { IfOk result (λ p. length p.1.now < length words.now) }
-    ensures refused { result ≡ Err WordsFault.Refused → GivesTwice (line_view line.entry) (map string_bytes words.now) }
-{
-    let Line {
-        options,
-        mut positions,
-    } = line;
-    let (word, behind) = (words[0].as_str(), &words[1..]);
-    match option_of(word) {
-        Some(choice) => {
-            let (options, behind) = take_option(options, choice, behind)?;
-            Ok((Line { options, positions }, behind))
-        }
-        None if is_name(word) => {
-            positions.push(word).map_err(|_| WordsFault::Memory)?;
-            Ok((Line { options, positions }, behind))
-        }
-        None => Err(WordsFault::Refused),
+    let command = line_command(alloc).map_err(|_| WordsFault::Memory)?;
+    match command.try_get_matches_from(words) {
+        Ok(matches) => Ok(matches),
+        Err(error) => Err(fault_of(&error)),
     }
 }
 
@@ -171,15 +150,18 @@ pub fn cut<'a>(alloc: Global, words: &'a [String]) -> Result<Line<'a>, WordsFaul
     ensures refused { result ≡ Err WordsFault.Refused → (line : LineValue)
         → IsLine (map string_bytes words.now) line → ¬ GivesOnce line }
 {
-    let mut line = Line {
-        options: no_options(),
-        positions: Vec::new(alloc),
-    };
-    let mut rest = words;
-    while !rest.is_empty() {
-        let (more, behind) = take_part(line, rest)?;
-        line = more;
-        rest = behind;
+    if !are_parts(words) {
+        return Err(WordsFault::Refused);
     }
-    Ok(line)
+    let matches = matches_of(alloc, words)?;
+    let options = Options {
+        schedule: matches.get_str(name_of(Choice::Schedule)),
+        fair: matches.get_str(name_of(Choice::Fair)),
+        shuffle: matches.get_str(name_of(Choice::Shuffle)),
+        steps: matches.get_str(name_of(Choice::Steps)),
+        record: matches.get_str(name_of(Choice::Record)),
+    };
+    let positions = matches.get_strs(POSITIONS).unwrap_or(&[]);
+    let positions = Vec::from_slice(alloc, positions).map_err(|_| WordsFault::Memory)?;
+    Ok(Line { options, positions })
 }

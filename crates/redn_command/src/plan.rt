@@ -6,9 +6,9 @@ ghost use Rattle.redn_command.specs.Words.{GivesNone, GivesPlan, Plan as PlanVal
 ghost use Rattle.redn_command.specs.Lines.{keep_view, line_view};
 
 use crate::command::{Plan, WordsFault};
-use crate::limits::{MOST_RECORDED, MOST_STEPS};
+use crate::limits::{MAX_RECORDED, MAX_STEPS};
 use crate::line::{Line, Options};
-use redn_sched::read_number;
+use redn_text::read_number;
 use std::alloc::Global;
 
 /// A text of one's own.
@@ -49,8 +49,8 @@ fn most_steps(keep: Option<&str>) -> u64
     ensures { result ≡ most_steps (option_map (λ s. s.now) keep.entry) }
 {
     match keep {
-        None => MOST_STEPS,
-        Some(_) => MOST_RECORDED,
+        None => MAX_STEPS,
+        Some(_) => MAX_RECORDED,
     }
 }
 

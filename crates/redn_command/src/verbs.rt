@@ -8,7 +8,7 @@ ghost use Rattle.redn_command.specs.Lines.{line_view};
 use crate::command::{Command, MessageWord, WordsFault};
 use crate::line::{Line, cut};
 use crate::plan::{gives_none, owned, plan_of};
-use redn_sched::{read_small, split_field};
+use redn_text::read_small;
 use std::alloc::Global;
 
 /// A message word.

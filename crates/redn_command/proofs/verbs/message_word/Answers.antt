@@ -1,5 +1,4 @@
-use Rattle.std.proofs.Common.{◌≡◌, ℕ, decimal, length, sym, ◌∙◌, lit<}
-use Rattle.std.specs.List.{position_or_len}
+use Rattle.std.proofs.Common.{◌∙◌, lit<}
 use Rattle.redn_command.proofs.MessageTexts.{equals_within, chain_before}
 use Rattle.redn_command.proofs.verbs.message_word.Goals as goal
 
