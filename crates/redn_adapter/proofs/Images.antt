@@ -7,7 +7,7 @@ use Rattle.std.proofs.lemmas.List.{get_or-map, length-map, take-map, append-nil}
 use Rattle.std.proofs.lemmas.List.Elements.{All-nil, All-cons, All-weaker}
 use Rattle.redn_words.specs.declared.types.Region.{Region}
 use Rattle.redn_words.specs.declared.types.Kind.TheVariants.{Vars}
-use Rattle.redn_words.specs.declared.limits.TheConstants.{GREATEST_MEMORY, GREATEST_RING}
+use Rattle.redn_words.specs.declared.limits.TheConstants.{MAX_MEMORY, MAX_RING}
 use Rattle.redn_words.specs.declared.types.QueueRow.{QueueRow}
 use Rattle.redn_words.specs.declared.types.Receive.{Receive}
 use Rattle.redn_words.specs.Access.{region_of}
@@ -48,7 +48,7 @@ All-unmap P f xs h = λ k d l. subst P (get_or-map f xs k d (f d) l) (h k (f d) 
 
 -- the ranges of an image lie in its memory
 pub record IsInside (i : Image) : Type 0 where
-  pub size : length i.memory ≤ GREATEST_MEMORY
+  pub size : length i.memory ≤ MAX_MEMORY
   pub few_regions : length i.regions ≤ 4096
   pub few : length i.receives ≤ 16
   pub few_queues : length i.queues ≤ 65535
@@ -65,14 +65,14 @@ module _ (size : ℕ) where
   receive_ends earlier r e = leb-true (r.base + r.len) size (and_parts (r.base % 8 == 0 && r.len % 8 == 0 && nat_le r.len 64) _ e).1
 
   abbrev EndsRing : QueueNumbers → Type 0
-  EndsRing q = (0 < q.slots) × (q.slots ≤ GREATEST_RING) × (q.base + 64 * q.slots ≤ size)
+  EndsRing q = (0 < q.slots) × (q.slots ≤ MAX_RING) × (q.base + 64 * q.slots ≤ size)
 
   ring_ends : (earlier : List QueueNumbers) (q : QueueNumbers) → ring_is_inside size earlier q ≡ true → EndsRing q
   ring_ends earlier q e =
-      let last = and_parts (q.base % 64 == 0 && nat_lt 0 q.slots && nat_le q.slots GREATEST_RING) _ e in
+      let last = and_parts (q.base % 64 == 0 && nat_lt 0 q.slots && nat_le q.slots MAX_RING) _ e in
       let few = and_parts (q.base % 64 == 0 && nat_lt 0 q.slots) _ last.0 in
       let some = and_parts (q.base % 64 == 0) _ few.0 in
-      (ltb-true 0 q.slots some.1, leb-true q.slots GREATEST_RING few.1, leb-true (q.base + 64 * q.slots) size last.1)
+      (ltb-true 0 q.slots some.1, leb-true q.slots MAX_RING few.1, leb-true (q.base + 64 * q.slots) size last.1)
 
   ring_is : (row : QueueRow) → EndsRing (queue_numbers row) → IsRing size row
   ring_is row h = record { some = h.0; few = h.1; inside = h.2 }
@@ -105,16 +105,16 @@ rows_inside n e17 =
       receives = each_keeps 17 (receive_is_inside n.size) (λ (r : Receive). r.base + r.len ≤ n.size) (receive_ends n.size) [] n.receives ((both_none _ (breaking 17 (receive_is_inside n.size) [] n.receives) e17).1);
     }
 
-header_bounds : (regions queues receives zero_field size : ℕ) → header_faults regions queues receives zero_field size ≡ [] → (regions ≤ 4096) × (receives ≤ 16) × (size ≤ GREATEST_MEMORY) × (queues ≤ 65535)
+header_bounds : (regions queues receives zero_field size : ℕ) → header_faults regions queues receives zero_field size ≡ [] → (regions ≤ 4096) × (receives ≤ 16) × (size ≤ MAX_MEMORY) × (queues ≤ 65535)
 header_bounds regions queues receives zero_field size e5 =
-    let last = kept (size % 8 == 0 && nat_le size GREATEST_MEMORY) 5 ((both_none _ (unless (size % 8 == 0 && nat_le size GREATEST_MEMORY) 5) e5).1) in
-    let e4 = (both_none _ (unless (size % 8 == 0 && nat_le size GREATEST_MEMORY) 5) e5).0 in
+    let last = kept (size % 8 == 0 && nat_le size MAX_MEMORY) 5 ((both_none _ (unless (size % 8 == 0 && nat_le size MAX_MEMORY) 5) e5).1) in
+    let e4 = (both_none _ (unless (size % 8 == 0 && nat_le size MAX_MEMORY) 5) e5).0 in
     let e3 = (both_none _ (unless (zero_field == 0) 4) e4).0 in
     let chains = kept (nat_lt 0 receives && nat_le receives 16) 3 ((both_none _ (unless (nat_lt 0 receives && nat_le receives 16) 3) e3).1) in
     let e2 = (both_none _ (unless (nat_lt 0 receives && nat_le receives 16) 3) e3).0 in
     let rings = kept (nat_le queues 65535) 2 ((both_none _ (unless (nat_le queues 65535) 2) e2).1) in
     let rows = kept (nat_le regions 4096) 1 ((both_none _ (unless (nat_le queues 65535) 2) e2).0) in
-    (leb-true regions 4096 rows, leb-true receives 16 (and_parts (nat_lt 0 receives) _ chains).1, leb-true size GREATEST_MEMORY (and_parts (size % 8 == 0) _ last).1, leb-true queues 65535 rings)
+    (leb-true regions 4096 rows, leb-true receives 16 (and_parts (nat_lt 0 receives) _ chains).1, leb-true size MAX_MEMORY (and_parts (size % 8 == 0) _ last).1, leb-true queues 65535 rings)
 
 pub image_inside : (i : Image) → Obeys i → IsInside i
 unfolding faults

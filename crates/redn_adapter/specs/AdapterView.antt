@@ -1,7 +1,7 @@
 -- How the fields of an adapter are seen, and what they keep.
 use Rattle.std.specs.Prelude.{◌≡◌, ℕ, ◌+◌, ◌*◌, ◌<◌, ◌≤◌, List, length, slice_get, Option, Some, None, IfSome}
 use Rattle.std.specs.List.{All}
-use Rattle.redn_words.specs.declared.limits.TheConstants.{GREATEST_MEMORY, GREATEST_RING}
+use Rattle.redn_words.specs.declared.limits.TheConstants.{MAX_MEMORY, MAX_RING}
 use Rattle.redn_words.specs.declared.types.QueueRow.{QueueRow}
 use Rattle.redn_words.specs.declared.types.Receive.{Receive}
 use Rattle.redn_words.specs.States.{Queue, Chain}
@@ -21,7 +21,7 @@ adapter_view a =
 -- a ring lies in so many bytes of memory
 pub record IsRing (size : ℕ) (row : QueueRow) : Type 0 where
   pub some : 0 < row.slots
-  pub few : row.slots ≤ GREATEST_RING
+  pub few : row.slots ≤ MAX_RING
   pub inside : row.base + 64 * row.slots ≤ size
 
 -- head and counter have risen by at most 1 in each step
@@ -43,7 +43,7 @@ MailFits (Some place) None = Unit {0}
 MailFits (Some place) (Some c) = IfSome (pending_bytes c.mail) (λ bytes. length bytes ≡ place.len)
 
 pub record IsAdapter (a : Inside) : Type 0 where
-  pub size : length a.memory.items ≤ GREATEST_MEMORY
+  pub size : length a.memory.items ≤ MAX_MEMORY
   pub regions : EndsBy (length a.memory.items) a.regions
   pub chains : All (λ (c : Chain). c.received ≤ a.steps) a.chains.items
   pub receives : All (λ (r : Receive). r.base + r.len ≤ length a.memory.items) a.receives.items

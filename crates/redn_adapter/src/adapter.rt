@@ -15,7 +15,7 @@ use redn_marks::Marks;
 use redn_queue::Queue;
 use redn_region::Regions;
 use redn_words::{
-    Action, Class, GREATEST_MEMORY, Messages, Obs, QueueRow, RECEIVE_BASE, Receive, Request,
+    Action, Class, MAX_MEMORY, Messages, Obs, QueueRow, RECEIVE_BASE, Receive, Request,
 };
 use redn_wqe::{class, decode};
 use std::alloc::Global;
@@ -25,7 +25,7 @@ use std::marker::Model;
 pub fn slot_at(memory: &[u8], row: &QueueRow, index: u64) -> [u8; 64]
     requires some { 0 < row.now.slots }
     requires inside { row.now.base + 64 * row.now.slots ≤ length memory.now }
-    requires size { length memory.now ≤ GREATEST_MEMORY }
+    requires size { length memory.now ≤ MAX_MEMORY }
     ensures { result ≡ slot_of memory.now row.now index }
 {
     let at = (row.base + 64 * (index % row.slots)) as usize;
@@ -37,7 +37,7 @@ pub fn slot_at(memory: &[u8], row: &QueueRow, index: u64) -> [u8; 64]
 /// Puts some bytes at a place.
 fn write_at(memory: &mut [u8], at: u64, bytes: &[u8])
     requires inside { at + length bytes.now ≤ length memory.old }
-    requires size { length memory.old ≤ GREATEST_MEMORY }
+    requires size { length memory.old ≤ MAX_MEMORY }
     ensures { memory.new ≡ with_bytes_at memory.old at bytes.now }
 {
     let at = at as usize;

@@ -122,16 +122,6 @@ read_all formats text values rest i past size r e =
     let whole : FieldsAre formats text (take i values ++ []) = r.done [] (subst (λ (fs : List Format). FieldsAre fs rest []) (sym none) e) in
     subst (FieldsAre formats text) (append-nil (take i values) ∙ take_all i values (omega arith)) whole
 
-last_field : (rest others : List ℕ) → FieldsAre [] rest others → rest ≡ codes "\n"
-last_field rest [] h = h
-last_field rest (n ∷ others) h = absurd h
-
-pub read_ends : (formats : List Format) (text values rest all : List ℕ) (i : ℕ) → length formats ≤ i → ReadTo formats text values rest i → FieldsAre formats text all → rest ≡ codes "\n"
-read_ends formats text values rest all i past r h =
-    let none : drop i formats ≡ [] = drop_all i formats past in
-    let l = r.left all h in
-    last_field rest l.0 (subst (λ (fs : List Format). FieldsAre fs rest l.0) none l.1)
-
 -- a line that begins with a word
 pub word_first : (line word rest : List ℕ) → pointwise nat_eq (take (length word) line) word ≡ true → rest ≡ drop (length word) line → line ≡ word ++ rest
 word_first line word rest e r =

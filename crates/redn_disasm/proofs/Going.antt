@@ -4,7 +4,8 @@ use Rattle.std.specs.Cmp.Lexicographic.{pointwise, bytes_decides}
 use Rattle.std.specs.Prelude.{nat_eq, not, ◌⊎◌, codes, Ok, Result, MatchResult, if◌then◌else◌}
 use Rattle.redn_image.specs.declared.numbers.Fault.{Fault}
 use Rattle.redn_image.specs.Rules.{Numbers, faults, first_of}
-use Rattle.redn_disasm.specs.Assembly.{Begun, BreaksRule, ComesTo, GivenRows, Leads, Named, Outcome, Progress, WrongLine, fills, finished, held, lines_of, memory_formats, no_rows, settled}
+use Rattle.redn_disasm.specs.Assembly.{Begun, BreaksRule, ComesTo, GivenRows, Leads, Named, Outcome, Progress, WrongLine, fills, finished, held, memory_formats, no_rows, settled}
+use Rattle.redn_text.specs.Texts.{lines_of}
 use Rattle.redn_disasm.specs.Fields.{IsRow}
 use Rattle.redn_disasm.specs.Going.{GoesOn}
 

@@ -11,7 +11,8 @@ use Rattle.redn_image.specs.Spelling.{spelled_header, spelled_queue, spelled_rec
 use Rattle.redn_image.proofs.OneSpelling.{one_image}
 use Rattle.redn_disasm.specs.declared.assembler.ListFault.{ListFault}
 use Rattle.redn_disasm.specs.declared.assembler.ListFault.TheVariants.{Line, Rule, Memory}
-use Rattle.redn_disasm.specs.Assembly.{Assembles, Begun, BreaksRule, Made, WrongLine, lines_of}
+use Rattle.redn_disasm.specs.Assembly.{Assembles, Begun, BreaksRule, Made, WrongLine}
+use Rattle.redn_text.specs.Texts.{lines_of}
 use Rattle.redn_disasm.specs.Going.{SaysWhy}
 use Rattle.redn_disasm.specs.Listing.{IsListing}
 use Rattle.redn_disasm.proofs.OneOutcome.{one_outcome}

@@ -3,7 +3,6 @@ pub mod Rings
 pub mod Pieces
 pub mod Opcodes
 pub mod FieldLists
-pub mod Cuts
 pub mod Listed
 pub mod OneValue
 pub mod Steps

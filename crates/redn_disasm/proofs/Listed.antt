@@ -27,7 +27,3 @@ twelve xs h = absurd (omega arith)
 pub one : (xs : List ℕ) → length xs ≡ 1 → xs ≡ at xs 0 ∷ []
 one (a ∷ []) h = refl
 one xs h = absurd (omega arith)
-
-pub two : (xs : List ℕ) → length xs ≡ 2 → xs ≡ at xs 0 ∷ at xs 1 ∷ []
-two (a ∷ b ∷ []) h = refl
-two xs h = absurd (omega arith)

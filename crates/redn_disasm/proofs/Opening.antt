@@ -14,7 +14,8 @@ use Rattle.redn_image.proofs.Bounds.{header_small}
 use Rattle.redn_image.proofs.Kept.{kept}
 use Rattle.redn_disasm.specs.declared.assembler.ListFault.{ListFault}
 use Rattle.redn_disasm.specs.declared.assembler.ListFault.TheVariants.{Line, Rule, Memory}
-use Rattle.redn_disasm.specs.Assembly.{Begun, BreaksRule, ComesTo, Filled, GivenRows, Leads, Made, Outcome, Progress, WrongLine, all_places, held, lines_of, settled}
+use Rattle.redn_disasm.specs.Assembly.{Begun, BreaksRule, ComesTo, Filled, GivenRows, Leads, Made, Outcome, Progress, WrongLine, all_places, held, settled}
+use Rattle.redn_text.specs.Texts.{lines_of}
 use Rattle.redn_disasm.specs.Going.{BreaksFirst, FillsNext, IsFresh, Refuses, SaysWhy}
 use Rattle.redn_disasm.specs.Holding.{StandFor, StandsForQueue, StandsForRegion}
 use Rattle.redn_disasm.proofs.FirstFaults.{same_count, same_first, same_queues, same_regions}
@@ -63,43 +64,6 @@ held_comes k n text out f none h =
     let here : ComesTo k (Filled n (all_places 0 n.queues) (replicate n.size 0)) (f.line ∷ f.behind) out = subst (λ (ls : List (List ℕ)). ComesTo k (Filled n (all_places 0 n.queues) (replicate n.size 0)) ls out) f.first h in
     let is : settled (GivenRows n) f.line ≡ Ok (Filled n (all_places 0 n.queues) (replicate n.size 0)) = ap (λ (b : Bool). if b then held n (first_of (faults n)) else Ok (GivenRows n)) f.filling ∙ ap (held n) none in
     subst (λ (ls : List (List ℕ)). ComesTo k (GivenRows n) ls out) (sym f.first) (subst (λ (r : Result Progress Fault). MatchResult r A B) (sym is) here)
-
-breaks_comes : (k : ℕ) (n : Numbers) (text : List ℕ) (g : Fault) → FillsNext text → first_of (faults n) ≡ Some g → ComesTo k (GivenRows n) (lines_of text) (BreaksRule g)
-breaks_comes k n text g f some =
-    let out : Outcome = BreaksRule g in
-    let A : Progress → Type 0 = λ r. ((after : Progress) × Leads r f.line after × ComesTo (k + 1) after f.behind out) ⊎ (((after : Progress) → ¬ Leads r f.line after) × (out ≡ WrongLine k)) in
-    let B : Fault → Type 0 = λ x. out ≡ BreaksRule x in
-    let is : settled (GivenRows n) f.line ≡ Err g = ap (λ (b : Bool). if b then held n (first_of (faults n)) else Ok (GivenRows n)) f.filling ∙ ap (held n) some in
-    subst (λ (ls : List (List ℕ)). ComesTo k (GivenRows n) ls out) (sym f.first) (subst (λ (r : Result Progress Fault). MatchResult r A B) (sym is) refl)
-
-pub refuses_rule : (k : ℕ) (n : Numbers) (text : List ℕ) (e : ListFault) → FillsNext text → BreaksFirst n e → Refuses k (GivenRows n) text e
-refuses_rule k n text (Line j) f h = absurd h
-refuses_rule k n text (Rule number index) f h = breaks_comes k n text (fault_at number index) f h
-refuses_rule k n text Memory f h = tt
-
-pub says_why : (text : List ℕ) (e : ListFault) → Refuses 1 Begun text e → SaysWhy text e
-says_why text (Line j) h = h
-says_why text (Rule number index) h = h
-says_why text Memory h = tt
-
--- an image's memory is filled
-pub fills_then : (k : ℕ) (n : Numbers) (i : Image) (text : List ℕ) (out : Outcome) → FillsNext text → IsFresh n i → ComesTo k (Filled (numbers_of i) (all_places 0 (numbers_of i).queues) i.memory) (lines_of text) out → ComesTo k (GivenRows n) (lines_of text) out
-fills_then k n i text out f fresh h =
-    let a = subst (λ (m : Numbers). ComesTo k (Filled m (all_places 0 m.queues) i.memory) (lines_of text) out) fresh.rows h in
-    let b = subst (λ (m : List ℕ). ComesTo k (Filled n (all_places 0 n.queues) m) (lines_of text) out) fresh.memory a in
-    held_comes k n text out f fresh.keeps b
-
-pub refuses_fill : (k : ℕ) (n : Numbers) (i : Image) (text : List ℕ) (e : ListFault) → FillsNext text → IsFresh n i → Refuses k (Filled (numbers_of i) (all_places 0 (numbers_of i).queues) i.memory) text e → Refuses k (GivenRows n) text e
-refuses_fill k n i text (Line j) f fresh h = fills_then k n i text _ f fresh h
-refuses_fill k n i text (Rule number index) f fresh h = fills_then k n i text _ f fresh h
-refuses_fill k n i text Memory f fresh h = tt
-
--- what was read into memory, seen as an image's
-pub made_image : (k : ℕ) (p : Progress) (ls : List (List ℕ)) (i : Image) (whole now w : List ℕ) → w ≡ now → length now ≡ length whole → i.memory ≡ whole → ComesTo k p ls (Made (numbers_of i) now) → ComesTo k p ls (Made (numbers_of (parts_of i.regions i.queues i.receives w)) w)
-made_image k p ls i whole now w e size is h =
-    let rows : ℕ → Numbers = λ n. rows_of (map region_numbers i.regions) (map queue_numbers i.queues) i.receives n in
-    let same : length i.memory ≡ length w = ap length is ∙ sym size ∙ sym (ap length e) in
-    subst (ComesTo k p ls) (ap (λ (n : ℕ). Made (rows n) now) same ∙ ap (λ (m : List ℕ). Made (rows (length w)) m) (sym e)) h
 
 pub counted : (n : Numbers) (a b c : ℕ) → a ≡ length n.regions → b ≡ length n.queues → c ≡ length n.receives → header_faults a b c 0 n.size ≡ header_faults (length n.regions) (length n.queues) (length n.receives) 0 n.size
 counted n a b c e f g =

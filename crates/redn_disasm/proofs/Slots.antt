@@ -5,7 +5,8 @@ use Rattle.redn_words.specs.declared.types.Request.{Request}
 use Rattle.redn_words.specs.Requests.{encoded}
 use Rattle.redn_words.specs.Words.{with_bytes_at}
 use Rattle.redn_image.specs.Rules.{Numbers}
-use Rattle.redn_disasm.specs.Assembly.{ComesTo, Filled, Leads, Place, Progress, WrongLine, lines_of, places_from, slot_formats, slot_values}
+use Rattle.redn_disasm.specs.Assembly.{ComesTo, Filled, Leads, Place, Progress, WrongLine, places_from, slot_formats, slot_values}
+use Rattle.redn_text.specs.Texts.{lines_of}
 use Rattle.redn_disasm.specs.Fields.{IsRow}
 use Rattle.redn_disasm.specs.Going.{GoesOn}
 use Rattle.redn_disasm.proofs.Going.{goes_missing, goes_more, goes_none, goes_wrong}

@@ -17,7 +17,8 @@ use Rattle.redn_image.proofs.Back.{FitsReceive}
 use Rattle.redn_image.proofs.Bounds.{header_small, none_before, small}
 use Rattle.redn_image.proofs.Fits.{queues_fit, receives_fit, regions_fit}
 use Rattle.redn_image.proofs.Kept.{each_keeps, kept}
-use Rattle.redn_disasm.specs.Assembly.{Assembles, Begun, ComesTo, GivenRows, Made, Named, Outcome, Place, all_places, fills, lines_of, memory_formats, no_rows, places_from, slot_formats, slot_values, data_formats}
+use Rattle.redn_disasm.specs.Assembly.{Assembles, Begun, ComesTo, GivenRows, Made, Named, Outcome, Place, all_places, fills, memory_formats, no_rows, places_from, slot_formats, slot_values, data_formats}
+use Rattle.redn_text.specs.Texts.{lines_of}
 use Rattle.redn_disasm.specs.Fields.{IsRow}
 use Rattle.redn_disasm.specs.Going.{FillsNext}
 use Rattle.redn_disasm.specs.Listing.{IsRing, data_line, data_text, flat_below, flat_from, lies_in, listing_text, memory_line, queue_line, receive_line, region_line, slot_line, slot_of, slots_text}

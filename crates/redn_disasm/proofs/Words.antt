@@ -6,14 +6,12 @@ use Rattle.redn_words.specs.Words.{spelled, with_bytes_at}
 use Rattle.redn_image.specs.Rules.{Numbers, queue_numbers}
 use Rattle.redn_disasm.specs.declared.assembler.ListFault.{ListFault}
 use Rattle.redn_disasm.specs.declared.assembler.ListFault.TheVariants.{Line, Rule, Memory}
-use Rattle.redn_disasm.specs.Assembly.{ComesTo, Ended, Filled, GivesWord, Leads, Made, Place, Progress, WrongLine, all_places, data_formats, lines_of, places_from}
+use Rattle.redn_disasm.specs.Assembly.{ComesTo, Ended, Filled, GivesWord, Leads, Made, Place, Progress, WrongLine, all_places, data_formats, places_from}
+use Rattle.redn_text.specs.Texts.{lines_of}
 use Rattle.redn_disasm.specs.Fields.{IsRow}
 use Rattle.redn_disasm.specs.Going.{GoesOn, Refuses}
 use Rattle.redn_disasm.proofs.Going.{comes_wrong, goes_more, goes_then}
 use Rattle.redn_disasm.proofs.OneValue.{one_number}
-
-pub word_put : (memory line now : List ℕ) (offset w : ℕ) → IsRow (codes "data") data_formats line (offset ∷ w ∷ []) → offset % 8 ≡ 0 → offset + 8 ≤ length memory → now ≡ with_bytes_at memory offset (spelled 8 w) → (n : Numbers) → n.size ≡ length memory → GivesWord n memory line (Filled n [] now)
-word_put memory line now offset w row even inside is n size = (offset, w, row, even, omega arith, ap (Filled n []) is)
 
 pub word_odd : (memory line : List ℕ) (offset w : ℕ) → IsRow (codes "data") data_formats line (offset ∷ w ∷ []) → offset % 8 ≢ 0 → (n : Numbers) (after : Progress) → n.size ≡ length memory → GivesWord n memory line after → ⊥
 word_odd memory line offset w row odd n after size h = odd (ap (λ (k : ℕ). k % 8) (one_number (codes "data") data_formats line offset h.0 (w ∷ []) (h.1 ∷ []) row h.2) ∙ h.3)

@@ -14,7 +14,8 @@ use Rattle.redn_words.proofs.Digits.{AreBytes}
 use Rattle.redn_words.specs.Requests.{decoded, encoded}
 use Rattle.redn_words.specs.Words.{number, spelled}
 use Rattle.redn_image.specs.Rules.{Image, Obeys, fault_at, faults, numbers_of, parts_of, queue_numbers, region_numbers}
-use Rattle.redn_disasm.specs.Assembly.{all_places, fills, lines_of, Assembles, BreaksRule, GivenRows, Leads, Made, Named, WrongLine, memory_formats, no_rows}
+use Rattle.redn_disasm.specs.Assembly.{all_places, fills, Assembles, BreaksRule, GivenRows, Leads, Made, Named, WrongLine, memory_formats, no_rows}
+use Rattle.redn_text.specs.Texts.{lines_of}
 use Rattle.redn_disasm.specs.Fields.{kind_word, op_word, order_word, IsRow}
 use Rattle.redn_disasm.specs.Listing.{data_line, listing_text, memory_line, queue_line, receive_line, region_line, slot_line}
 use Rattle.redn_disasm.proofs.Whole.{read_back}

@@ -8,11 +8,12 @@ use Rattle.redn_image.specs.declared.numbers.QueueNumbers.{QueueNumbers}
 use Rattle.redn_image.specs.declared.numbers.RegionNumbers.{RegionNumbers}
 use Rattle.redn_image.proofs.Back.{FitsQueue, FitsReceive, FitsRegion}
 use Rattle.redn_disasm.specs.declared.formats.Format.{Format}
-use Rattle.redn_disasm.specs.Assembly.{ComesTo, GivenRows, Leads, Outcome, Progress, fills, is_inside, lines_of, queue_formats, queue_values, receive_formats, receive_values, region_formats, region_values, settled}
+use Rattle.redn_disasm.specs.Assembly.{ComesTo, GivenRows, Leads, Outcome, Progress, fills, is_inside, queue_formats, queue_values, receive_formats, receive_values, region_formats, region_values, settled}
+use Rattle.redn_text.specs.Texts.{lines_of}
 use Rattle.redn_disasm.specs.Fields.{FieldsAre, IsRow, IsText, kind_word, order_word}
 use Rattle.redn_disasm.specs.Listing.{flat_from, queue_line, receive_line, region_line}
-use Rattle.redn_disasm.specs.Reading.{is_no_newline}
-use Rattle.redn_disasm.proofs.Cuts.{after_line}
+use Rattle.redn_text.specs.Texts.{is_no_newline}
+use Rattle.redn_text.proofs.Cuts.{after_line}
 use Rattle.redn_disasm.proofs.FieldLists.{text_inside}
 use Rattle.redn_disasm.proofs.Going.{comes_more, not_held}
 use Rattle.redn_disasm.proofs.Pieces.{all_append}

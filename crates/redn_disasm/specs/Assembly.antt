@@ -13,18 +13,7 @@ use Rattle.redn_image.specs.Rules.{Numbers, faults, first_of}
 use Rattle.redn_disasm.specs.declared.formats.Format.{Format}
 use Rattle.redn_disasm.specs.declared.formats.Format.TheVariants.{Number, Kind, Order, Op, Hex}
 use Rattle.redn_disasm.specs.Fields.{IsRow}
-
--- A text is cut behind each newline. What stands behind the last one is a line too, unless it is empty.
-abbrev pub last_line : List ℕ → List (List ℕ)
-last_line [] = []
-last_line (b ∷ line) = (b ∷ line) ∷ []
-
-abbrev pub lines_after : List ℕ → List ℕ → List (List ℕ)
-lines_after line [] = last_line line
-lines_after line (b ∷ rest) = if b == 10 then (line ++ b ∷ []) ∷ lines_after [] rest else lines_after (line ++ b ∷ []) rest
-
-abbrev pub lines_of : List ℕ → List (List ℕ)
-lines_of text = lines_after [] text
+use Rattle.redn_text.specs.Texts.{lines_of}
 
 -- The fields of each line, behind its first word, and the values of a row in them.
 abbrev pub of_bits : ℕ → Format

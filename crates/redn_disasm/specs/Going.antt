@@ -3,7 +3,8 @@ use Rattle.std.specs.Prelude.{◌≡◌, ℕ, ◌+◌, ◌≤◌, true, List, �
 use Rattle.redn_image.specs.Rules.{Image, Numbers, fault_at, faults, first_of, numbers_of}
 use Rattle.redn_disasm.specs.declared.assembler.ListFault.{ListFault}
 use Rattle.redn_disasm.specs.declared.assembler.ListFault.TheVariants as fault
-use Rattle.redn_disasm.specs.Assembly.{Assembles, BreaksRule, ComesTo, Outcome, Progress, WrongLine, fills, lines_of}
+use Rattle.redn_disasm.specs.Assembly.{Assembles, BreaksRule, ComesTo, Outcome, Progress, WrongLine, fills}
+use Rattle.redn_text.specs.Texts.{lines_of}
 
 -- what the rest of a text comes to, the whole does
 pub record GoesOn (k : ℕ) (p : Progress) (text : List ℕ) (j : ℕ) (q : Progress) (rest : List ℕ) : Type 0 where

@@ -18,9 +18,6 @@ pub record IsField (text field behind : List ℕ) : Type 0 where
   pub inside : list_all is_inside field ≡ true
   pub stops : prefix_len is_inside behind ≡ 0
 
-abbrev pub is_no_newline : ℕ → Bool
-is_no_newline b = not (b == 10)
-
 -- how many words a format has, and which
 abbrev pub names : Format → ℕ
 names (format.Number most) = 0

@@ -3,7 +3,8 @@
 ghost use Rattle.std.specs.Prelude.{◌≡◌, ◌+◌, ◌^◌, ◌<◌, map, IfErr, IfOk, MatchResult, length};
 ghost use Rattle.redn_image.specs.Rules.{Image as Parts, numbers_of, queue_numbers};
 ghost use Rattle.redn_disasm.specs.declared.assembler.ListFault.TheVariants as fault;
-ghost use Rattle.redn_disasm.specs.Assembly.{Assembles, Begun, ComesTo, Filled, GivenRows, Made, all_places, lines_of, no_rows};
+ghost use Rattle.redn_disasm.specs.Assembly.{Assembles, Begun, ComesTo, Filled, GivenRows, Made, all_places, no_rows};
+ghost use Rattle.redn_text.specs.Texts.{lines_of};
 ghost use Rattle.redn_disasm.specs.Going.{FillsNext, GoesOn, Refuses, SaysWhy};
 ghost use Rattle.redn_disasm.specs.Listing.{IsListing};
 ghost use Rattle.redn_disasm.specs.Reading.{numbers};
@@ -12,9 +13,10 @@ use crate::fields::read_row;
 use crate::filling::read_memory;
 use crate::formats::MEMORY;
 use crate::holding::hold;
-use crate::lines::{is_filling, next_line};
+use crate::lines::is_filling;
 use crate::rows::{Rows, add_row};
 use redn_image::{Image, image_of_kept};
+use redn_text::next_line;
 use redn_words::Memory;
 use std::alloc::{AllocError, Global};
 

@@ -10,8 +10,7 @@ ghost use Rattle.redn_disasm.specs.declared.formats.Format.TheVariants as format
 use crate::formats::Format;
 use byteorder::{BigEndian, ByteOrder};
 use hex::decode_to_slice;
-use itoa::Buffer;
-use std::str;
+use redn_text::read_number;
 
 /// How many bytes stand before the first space or newline.
 pub fn field_len(text: &[u8]) -> usize
@@ -35,25 +34,6 @@ fn next_field(text: &[u8]) -> Option<(&[u8], &[u8])>
         return None;
     }
     Some(rest.split_at(field_len(rest)))
-}
-
-/// The number that is written so in decimal digits, without a leading zero or a sign.
-fn read_number(digits: &[u8]) -> Option<u64>
-    ensures value { IfSome result (λ n. digits.now ≡ decimal n) }
-    ensures none { IfNone result ((n : ℕ) → n < 2 ^ 64 → digits.now ≢ decimal n) }
-{
-    let Ok(text) = str::from_utf8(digits) else {
-        return None;
-    };
-    let Ok(number) = text.parse::<u64>() else {
-        return None;
-    };
-    let mut buffer = Buffer::new();
-    if buffer.format(number).as_bytes() == digits {
-        Some(number)
-    } else {
-        None
-    }
 }
 
 /// How many words a format has.

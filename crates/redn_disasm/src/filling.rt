@@ -6,7 +6,8 @@ ghost use Rattle.redn_words.specs.declared.types.Request.{Request as Fields};
 ghost use Rattle.redn_words.specs.Requests.{encoded};
 ghost use Rattle.redn_words.specs.Words.{with_bytes_at};
 ghost use Rattle.redn_image.specs.Rules.{Numbers, queue_numbers};
-ghost use Rattle.redn_disasm.specs.Assembly.{ComesTo, Filled, GivesWord, Made, Place, Progress, all_places, data_formats, lines_of, places_from, slot_formats, slot_values};
+ghost use Rattle.redn_disasm.specs.Assembly.{ComesTo, Filled, GivesWord, Made, Place, Progress, all_places, data_formats, places_from, slot_formats, slot_values};
+ghost use Rattle.redn_text.specs.Texts.{lines_of};
 ghost use Rattle.redn_disasm.specs.Fields.{IsRow};
 ghost use Rattle.redn_disasm.specs.Going.{GoesOn, Refuses};
 ghost use Rattle.redn_disasm.specs.Listing.{IsRing};
@@ -14,7 +15,7 @@ ghost use Rattle.redn_disasm.specs.Listing.{IsRing};
 use crate::assembler::{Left, ListFault};
 use crate::fields::read_row;
 use crate::formats::{DATA, SLOT};
-use crate::lines::next_line;
+use redn_text::next_line;
 use redn_words::{QueueRow, Request, put_word};
 use redn_wqe::encode;
 

@@ -9,15 +9,10 @@ ghost use Rattle.redn_disasm.specs.Reading.{numbers, queue_of, region_of};
 use crate::assembler::ListFault;
 use crate::rows::{QueueFields, RegionFields, Rows};
 use redn_image::{Image, RuleFault, image_of};
-use redn_words::{GREATEST_MEMORY, Kind, Memory, QueueRow, Region};
+use redn_words::{
+    Kind, MAX_MEMORY, MAX_QUEUES, MAX_RECEIVES, MAX_REGIONS, Memory, QueueRow, Region,
+};
 use std::alloc::Global;
-
-/// How many regions, queues and message places an image has at most.
-const GREATEST_REGIONS: u64 = 4_096;
-
-const GREATEST_QUEUES: u64 = 65_535;
-
-const GREATEST_RECEIVES: u64 = 16;
 
 /// The first rule of an image's header that these counts and this size of memory break.
 fn broken_count(regions: u64, queues: u64, receives: u64, size: u64) -> Option<u8>
@@ -25,16 +20,16 @@ fn broken_count(regions: u64, queues: u64, receives: u64, size: u64) -> Option<u
         first_of (header_faults regions queues receives 0 size) ≡ Some (fault_at rule 0)) }
     ensures kept { IfNone result (header_faults regions queues receives 0 size ≡ []) }
 {
-    if regions > GREATEST_REGIONS {
+    if regions > MAX_REGIONS {
         return Some(1);
     }
-    if queues > GREATEST_QUEUES {
+    if queues > MAX_QUEUES {
         return Some(2);
     }
-    if receives == 0 || receives > GREATEST_RECEIVES {
+    if receives == 0 || receives > MAX_RECEIVES {
         return Some(3);
     }
-    if size % 8 != 0 || size > GREATEST_MEMORY {
+    if size % 8 != 0 || size > MAX_MEMORY {
         return Some(5);
     }
     None

@@ -13,5 +13,4 @@ mod write;
 
 pub use assembler::{ListFault, assemble};
 pub use laws::{a_listing_means_its_image, a_text_has_one_meaning};
-pub use lines::next_line;
 pub use write::listing;

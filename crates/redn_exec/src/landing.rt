@@ -9,7 +9,7 @@ use crate::shown::{add_shown, cas_shown, read_shown, send_shown, write_shown};
 use crate::sides::{Sides, both_sides, local_side, refused};
 use redn_region::Regions;
 use redn_words::{
-    GREATEST_MEMORY, Obs, Opcode, Origin, Request, copy_within_checked, put_word, word_at,
+    MAX_MEMORY, Obs, Opcode, Origin, Request, copy_within_checked, put_word, word_at,
 };
 use redn_wqe::opcode;
 
@@ -31,7 +31,7 @@ fn first_word(mem: &[u8], at: u64, len: u64) -> u64
 #[tactic(auto, unfolding(redn_words::specs::Landings::lands))]
 fn land_write(mem: &mut [u8], regions: &Regions, o: Origin, r: &Request) -> Landing
     requires inside { EndsBy (length mem.old) regions.now }
-    requires size { length mem.old ≤ GREATEST_MEMORY }
+    requires size { length mem.old ≤ MAX_MEMORY }
     ensures { LandsAs mem.old (lands regions.now o mem.old r.now op.Write) mem.new result }
 {
     let Sides { local, remote } = match both_sides(regions, o, Opcode::Write, r) {
@@ -47,7 +47,7 @@ fn land_write(mem: &mut [u8], regions: &Regions, o: Origin, r: &Request) -> Land
 #[tactic(auto, unfolding(redn_words::specs::Landings::lands))]
 fn land_read(mem: &mut [u8], regions: &Regions, o: Origin, r: &Request) -> Landing
     requires inside { EndsBy (length mem.old) regions.now }
-    requires size { length mem.old ≤ GREATEST_MEMORY }
+    requires size { length mem.old ≤ MAX_MEMORY }
     ensures { LandsAs mem.old (lands regions.now o mem.old r.now op.Read) mem.new result }
 {
     let Sides { local, remote } = match both_sides(regions, o, Opcode::Read, r) {
@@ -63,7 +63,7 @@ fn land_read(mem: &mut [u8], regions: &Regions, o: Origin, r: &Request) -> Landi
 #[tactic(auto, unfolding(redn_words::specs::Landings::lands))]
 fn land_cas(mem: &mut [u8], regions: &Regions, o: Origin, r: &Request) -> Landing
     requires inside { EndsBy (length mem.old) regions.now }
-    requires size { length mem.old ≤ GREATEST_MEMORY }
+    requires size { length mem.old ≤ MAX_MEMORY }
     ensures { LandsAs mem.old (lands regions.now o mem.old r.now op.Cas) mem.new result }
 {
     let Sides { local, remote } = match both_sides(regions, o, Opcode::Cas, r) {
@@ -82,7 +82,7 @@ fn land_cas(mem: &mut [u8], regions: &Regions, o: Origin, r: &Request) -> Landin
 #[tactic(auto, unfolding(redn_words::specs::Landings::lands))]
 fn land_add(mem: &mut [u8], regions: &Regions, o: Origin, r: &Request) -> Landing
     requires inside { EndsBy (length mem.old) regions.now }
-    requires size { length mem.old ≤ GREATEST_MEMORY }
+    requires size { length mem.old ≤ MAX_MEMORY }
     ensures { LandsAs mem.old (lands regions.now o mem.old r.now op.Add) mem.new result }
 {
     let Sides { local, remote } = match both_sides(regions, o, Opcode::Add, r) {
@@ -100,7 +100,7 @@ fn land_add(mem: &mut [u8], regions: &Regions, o: Origin, r: &Request) -> Landin
 #[tactic(auto, unfolding(redn_words::specs::Landings::lands))]
 fn land_send(mem: &[u8], regions: &Regions, o: Origin, r: &Request) -> Landing
     requires inside { EndsBy (length mem.now) regions.now }
-    requires size { length mem.now ≤ GREATEST_MEMORY }
+    requires size { length mem.now ≤ MAX_MEMORY }
     ensures { LandsAs mem.now (lands regions.now o mem.now r.now op.Send) mem.now result }
 {
     let Ok(local) = local_side(regions, o.chain, Opcode::Send, r) else {
@@ -115,7 +115,7 @@ fn land_send(mem: &[u8], regions: &Regions, o: Origin, r: &Request) -> Landing
 #[tactic(auto, unfolding(redn_words::specs::Landings::lands))]
 fn land_by_opcode(mem: &mut [u8], regions: &Regions, o: Origin, r: &Request, op: Opcode) -> Landing
     requires inside { EndsBy (length mem.old) regions.now }
-    requires size { length mem.old ≤ GREATEST_MEMORY }
+    requires size { length mem.old ≤ MAX_MEMORY }
     ensures { LandsAs mem.old (lands regions.now o mem.old r.now op) mem.new result }
 {
     match op {
@@ -142,7 +142,7 @@ pub fn land(
     r: &Request,
 ) -> Landing
     requires inside { EndsBy (length mem.old) regions.now }
-    requires size { length mem.old ≤ GREATEST_MEMORY }
+    requires size { length mem.old ≤ MAX_MEMORY }
     ensures memory { mem.new
         ≡ changed mem.old (landing regions.now (from_queue domain queue index) mem.old r.now).writes }
     ensures answer { result

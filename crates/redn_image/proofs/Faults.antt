@@ -20,14 +20,8 @@ first_both xs ys a b e f = ap (λ (o : Option Fault). option_or o b) e ∙ ap (o
 pub record PassedTo {X : Type 0} (rule : ℕ) (keeps : List X → X → Bool) (rows : List X) (i : ℕ) : Type 0 where
   pub none : breaking rule keeps [] rows ≡ breaking rule keeps (take i rows) (drop i rows)
 
-pub passed_none : {X : Type 0} (rule : ℕ) (keeps : List X → X → Bool) (rows : List X) → PassedTo rule keeps rows 0
-passed_none rule keeps rows = record { none = refl }
-
 breaks_cons : {X : Type 0} (rule : ℕ) (keeps : List X → X → Bool) (earlier rest : List X) (x : X) → keeps earlier x ≡ true → breaking rule keeps earlier (x ∷ rest) ≡ breaking rule keeps (earlier ++ x ∷ []) rest
 breaks_cons rule keeps earlier rest x e = rw e refl
-
-breaks_here : {X : Type 0} (rule : ℕ) (keeps : List X → X → Bool) (earlier rest : List X) (x : X) → keeps earlier x ≡ false → first_of (breaking rule keeps earlier (x ∷ rest)) ≡ Some (record { rule = rule; index = length earlier })
-breaks_here rule keeps earlier rest x e = rw e refl
 
 -- a row that keeps the rule
 pub passed_more : {X : Type 0} (rule : ℕ) (keeps : List X → X → Bool) (rows : List X) (i : ℕ) (d : X) → i < length rows → PassedTo rule keeps rows i → keeps (take i rows) (get_or rows i d) ≡ true → PassedTo rule keeps rows (i + 1)
@@ -38,22 +32,6 @@ passed_more rule keeps rows i d low p e =
     record {
       none = p.none ∙ ap (breaking rule keeps (take i rows)) cut ∙ breaks_cons rule keeps (take i rows) (drop (i + 1) rows) x e ∙ ap (λ (l : List _). breaking rule keeps l (drop (i + 1) rows)) (sym more);
     }
-
--- the first row that breaks it
-pub passed_broken : {X : Type 0} (rule : ℕ) (keeps : List X → X → Bool) (rows : List X) (i : ℕ) (d : X) → i < length rows → PassedTo rule keeps rows i → keeps (take i rows) (get_or rows i d) ≡ false → Some (record { rule = rule; index = i }) ≡ first_of (breaking rule keeps [] rows)
-passed_broken rule keeps rows i d low p e =
-    let x = get_or rows i d in
-    let cut : drop i rows ≡ x ∷ drop (suc i) rows = drop-cons rows i d low in
-    let size : length (take i rows) ≡ i = omega (arith, length-take i rows) in
-    let found : first_of (breaking rule keeps (take i rows) (x ∷ drop (suc i) rows)) ≡ Some (record { rule = rule; index = length (take i rows) }) = breaks_here rule keeps (take i rows) (drop (suc i) rows) x e in
-    let as_fault : ℕ → Option Fault = λ (n : ℕ). Some (record { rule = rule; index = n }) in
-    sym (ap first_of p.none ∙ ap (λ (l : List _). first_of (breaking rule keeps (take i rows) l)) cut ∙ found ∙ ap as_fault size)
-
--- no row breaks it
-pub passed_all : {X : Type 0} (rule : ℕ) (keeps : List X → X → Bool) (rows : List X) (i : ℕ) → length rows ≤ i → PassedTo rule keeps rows i → None ≡ first_of (breaking rule keeps [] rows)
-passed_all rule keeps rows i past p =
-    let none : drop i rows ≡ [] = drop_all i rows past in
-    sym (ap first_of (p.none ∙ ap (breaking rule keeps (take i rows)) none))
 
 one_row : (rule n : ℕ) (keeps : Bool) (f : Fault) (rest : List Fault) (later : Option ℕ) → f ≡ fault_at rule n → first_of rest ≡ option_map (fault_at rule) later → first_of ((if keeps then [] else f ∷ []) ++ rest) ≡ option_map (fault_at rule) (cond (not keeps) (Some n) later)
 one_row rule n true f rest later e h = h

@@ -30,7 +30,7 @@ use Rattle.redn_image.specs.Agreement.{Fits, Agrees, HoldsVariables, HasTableLen
 use Rattle.redn_image.specs.Faithful.{Explains, CanGoOn, IsClean, start_of}
 
 says_seven : ChainInit
-says_seven = record { args = 0; vars = []; body = Reply (Num 7 ∷ []) ∷ [] }
+says_seven = record { serve = 1; args = 0; vars = []; body = Reply (Num 7 ∷ []) ∷ [] }
 
 program : Program
 program = record { tables = []; chains = says_seven ∷ [] }

@@ -9,6 +9,7 @@ use Rattle.redn_words.specs.Steps.{possible, is_useful, chain_of}
 use Rattle.redn_words.specs.Runs.{AllPossible, reached, all_shown, useful_for}
 use Rattle.redn_kernel.specs.declared.types.ChainInit.{ChainInit}
 use Rattle.redn_kernel.specs.declared.types.Program.{Program}
+use Rattle.redn_kernel.specs.Costs.{step_worth}
 use Rattle.redn_kernel.specs.Source.{Source, source_start, source_after, is_running, EachRuns, events, steps_of}
 use Rattle.redn_image.specs.Rules.{Image}
 use Rattle.redn_image.specs.Agreement.{Fits, Agrees}
@@ -46,7 +47,7 @@ pub record Explains (first : State) (acts : List Action) (source : Source) (turn
   pub shows_events : all_shown first acts ≡ events source turns
   pub agrees : Agrees first.regions (reached first acts).memory (source_after source turns)
   pub clean : All IsClean (all_shown first acts)
-  pub few : (c : ℕ) → useful_for c first acts ≤ 160 * (steps_of c turns + 1)
+  pub few : (c : ℕ) → useful_for c first acts ≤ step_worth * (steps_of c turns + 1)
   pub goes_on : (c : ℕ) → is_running (source_after source turns) c ≡ true → CanGoOn (reached first acts) c
 
 abbrev pub start_of : Image → List (Option (List ℕ)) → State
@@ -55,5 +56,6 @@ start_of i messages = start i.regions i.queues i.receives i.memory messages
 -- every run of the adapter is explained, whatever the messages
 pub record Faithful (p : Program) (i : Image) : Type 0 where
   pub fits : Fits p i
-  pub explained : (messages : List (Option (List ℕ))) → AreMessages p.chains messages → (acts : List Action) → length acts < 2 ^ 62 → AllPossible (start_of i messages) acts
+  pub explained : (messages : List (Option (List ℕ))) → AreMessages p.chains messages → (acts : List Action) → length acts < 2 ^ 62 →
+      AllPossible (start_of i messages) acts
       → (turns : List ℕ) × Explains (start_of i messages) acts (source_start p messages) turns

@@ -1,7 +1,7 @@
 -- An image, and the rules that it keeps.
 use Rattle.std.specs.Prelude.{◌≡◌, ℕ, ◌+◌, ◌*◌, ◌%◌, ◌^◌, Bool, true, not, ◌&&◌, ◌==◌, nat_lt, nat_le, if◌then◌else◌, List, [], ◌∷◌, ◌++◌, length, map, Option, Some, None, sum_by}
 use Rattle.std.specs.List.{find, list_any}
-use Rattle.redn_words.specs.declared.limits.TheConstants.{GREATEST_MEMORY, GREATEST_RING}
+use Rattle.redn_words.specs.declared.limits.TheConstants.{MAX_MEMORY, MAX_RING}
 use Rattle.redn_words.specs.declared.types.Region.{Region}
 use Rattle.redn_words.specs.declared.types.Kind.{Kind}
 use Rattle.redn_words.specs.declared.types.Kind.TheVariants.{Vars, Table, Code, Control, Message}
@@ -74,10 +74,14 @@ abbrev pub table_is_one : List RegionNumbers → RegionNumbers → Bool
 table_is_one earlier r = if r.kind == 1 then has_place_of r (find (is_same_table r) earlier) else true
 
 abbrev pub ring_is_inside : ℕ → List QueueNumbers → QueueNumbers → Bool
-ring_is_inside size earlier q = q.base % 64 == 0 && nat_lt 0 q.slots && nat_le q.slots GREATEST_RING && nat_le (q.base + 64 * q.slots) size
+ring_is_inside size earlier q = q.base % 64 == 0 && nat_lt 0 q.slots && nat_le q.slots MAX_RING && nat_le (q.base + 64 * q.slots) size
+
+-- how many slots all rings have together, at most
+abbrev pub most_slots : ℕ
+most_slots = 524288
 
 abbrev pub slots_are_few : List QueueNumbers → QueueNumbers → Bool
-slots_are_few earlier q = nat_le (sum_by (λ (e : QueueNumbers). e.slots) earlier + q.slots) 524288
+slots_are_few earlier q = nat_le (sum_by (λ (e : QueueNumbers). e.slots) earlier + q.slots) most_slots
 
 abbrev pub receive_is_inside : ℕ → List Receive → Receive → Bool
 receive_is_inside size earlier r = r.base % 8 == 0 && r.len % 8 == 0 && nat_le r.len 64 && nat_le (r.base + r.len) size
@@ -98,7 +102,7 @@ unless holds rule = if holds then [] else record { rule = rule; index = 0 } ∷ 
 -- the rules of the header: so many regions, queues and receives, the zero, and the size of memory
 abbrev pub header_faults : ℕ → ℕ → ℕ → ℕ → ℕ → List Fault
 header_faults regions queues receives zero_field size =
-    unless (nat_le regions 4096) 1 ++ unless (nat_le queues 65535) 2 ++ unless (nat_lt 0 receives && nat_le receives 16) 3 ++ unless (zero_field == 0) 4 ++ unless (size % 8 == 0 && nat_le size GREATEST_MEMORY) 5
+    unless (nat_le regions 4096) 1 ++ unless (nat_le queues 65535) 2 ++ unless (nat_lt 0 receives && nat_le receives 16) 3 ++ unless (zero_field == 0) 4 ++ unless (size % 8 == 0 && nat_le size MAX_MEMORY) 5
 
 -- the rules of the rows
 abbrev pub row_faults : Numbers → List Fault

@@ -7,7 +7,9 @@ ghost use Rattle.std.specs.BTreeMap.{get};
 ghost use Rattle.redn_image.specs.Rules.{breaking, fault_at, has_place_of, row_faults, table_is_one, first_of, unless as unless_holds, header_faults, key_is_new, kind_is_known, region_is_inside, ring_is_inside, receive_is_inside, slots_are_few};
 
 use crate::numbers::{Fault, QueueNumbers, RegionNumbers};
-use redn_words::{GREATEST_MEMORY, GREATEST_RING, Memory, Receive};
+use redn_words::{
+    MAX_MEMORY, MAX_QUEUES, MAX_RECEIVES, MAX_REGIONS, MAX_RING, MAX_SLOTS, Memory, Receive,
+};
 use std::alloc::Global;
 use std::collections::{BTreeMap, BTreeSet};
 
@@ -26,11 +28,11 @@ fn unless(holds: bool, rule: u8) -> Option<Fault>
 pub fn header_fault(regions: u64, queues: u64, receives: u64, zero: u32, size: u64) -> Option<Fault>
     ensures { result ≡ first_of (header_faults regions queues receives zero size) }
 {
-    unless(regions <= 4096, 1)
-        .or(unless(queues <= 65_535, 2))
-        .or(unless(0 < receives && receives <= 16, 3))
+    unless(regions <= MAX_REGIONS, 1)
+        .or(unless(queues <= MAX_QUEUES, 2))
+        .or(unless(0 < receives && receives <= MAX_RECEIVES, 3))
         .or(unless(zero == 0, 4))
-        .or(unless(size % 8 == 0 && size <= GREATEST_MEMORY, 5))
+        .or(unless(size % 8 == 0 && size <= MAX_MEMORY, 5))
 }
 
 /// Whether a range ends within so many bytes. Its end may not fit a word.
@@ -58,10 +60,7 @@ fn region_inside(r: &RegionNumbers, size: u64) -> bool
 fn ring_inside(q: &QueueNumbers, size: u64) -> bool
     ensures { result ≡ ring_is_inside size [] q.now }
 {
-    q.base % 64 == 0
-        && 0 < q.slots
-        && q.slots <= GREATEST_RING
-        && ends_by(q.base, 64 * q.slots, size)
+    q.base % 64 == 0 && 0 < q.slots && q.slots <= MAX_RING && ends_by(q.base, 64 * q.slots, size)
 }
 
 fn receive_inside(r: &Receive, size: u64) -> bool
@@ -138,7 +137,7 @@ fn slot_fault(rows: &[QueueNumbers]) -> Option<Fault>
     requires { length rows.now < 2 ^ 32 }
     ensures { result ≡ first_of (breaking 16 slots_are_few [] rows.now) }
 {
-    let mut left = 524_288;
+    let mut left = MAX_SLOTS;
     for (index, row) in rows.iter().enumerate() {
         if row.slots > left {
             let index = index as u32;

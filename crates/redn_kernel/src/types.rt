@@ -84,10 +84,11 @@ pub struct TableInit {
     pub writable: bool,
 }
 
-/// A chain: how many of its variables are arguments, each variable's first value, and what it
-/// does.
+/// A chain: how many messages it serves, how many of its variables are arguments, each variable's
+/// first value, and what it does.
 #[derive(Debug, Drop)]
 pub struct ChainInit {
+    pub serve: u16,
     pub args: u16,
     pub vars: Items<u64>,
     pub body: Items<Kernel>,

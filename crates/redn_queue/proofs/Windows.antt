@@ -90,10 +90,6 @@ pub first_read : (h : ℕ) (xs : List (Option Copy)) (x : Option Copy) → zero 
 first_read h [] x l e = absurd (omega arith)
 first_read h (y ∷ ys) x l e = e ∙ sym (get_first h y ys)
 
-pub no_place : (h : ℕ) (xs : List (Option Copy)) → length xs ≡ 0 → None ≡ get (copies_in h xs) h
-no_place h [] e = sym (get_copies h [] h)
-no_place h (x ∷ xs) e = absurd (omega arith)
-
 no_window : (h n : ℕ) → window h (replicate n None) ≡ []
 no_window h zero = refl
 no_window h (suc n) = no_window (h + 1) n
@@ -111,13 +107,6 @@ at_offset h (suc k) (x ∷ xs) d l =
     let e : h + 1 + k ≡ h + suc k = omega arith in
     rw other (ap (λ n. at_window n (h + 1) xs) (sym e) ∙ at_offset (h + 1) k xs d (omega arith))
 
-at_window_above : (q h : ℕ) (xs : List (Option Copy)) → h + length xs ≤ q → at_window q h xs ≡ None
-at_window_above q h [] l = refl
-at_window_above q h (x ∷ xs) l =
-    let over : h < q = omega arith in
-    let other : eqb q h ≡ false = grind (arith, nat_tests) in
-    rw other (at_window_above q (h + 1) xs (omega arith))
-
 pub copy_at : (h : ℕ) (xs : List (Option Copy)) (q : ℕ) (d : Option Copy) → h ≤ q → q - h < length xs → get (copies_in h xs) q ≡ get_or xs (q - h) d
 copy_at h xs q d le l =
     let e : h + (q - h) ≡ q = omega arith in
@@ -125,6 +114,3 @@ copy_at h xs q d le l =
 
 pub copy_below : (h : ℕ) (xs : List (Option Copy)) (q : ℕ) → q < h → get (copies_in h xs) q ≡ None
 copy_below h xs q l = get_copies h xs q ∙ at_window_below q h xs l
-
-pub copy_above : (h : ℕ) (xs : List (Option Copy)) (q : ℕ) → h + length xs ≤ q → get (copies_in h xs) q ≡ None
-copy_above h xs q l = get_copies h xs q ∙ at_window_above q h xs l

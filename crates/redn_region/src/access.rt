@@ -3,7 +3,7 @@
 ghost use Rattle.std.specs.Prelude.{◌≡◌, ◌+◌, ◌^◌, ◌<◌, ◌≤◌, IfOk, Some, nat_lt};
 ghost use Rattle.redn_words.specs.Access.{access_in, grants, is_aligned};
 
-use redn_words::{GREATEST_LENGTH, Need, Refusal, Region, Spot};
+use redn_words::{MAX_TRANSFER, Need, Refusal, Region, Spot};
 
 fn permits(rights: u8, need: Need) -> bool
     ensures { result ≡ grants rights need }
@@ -41,7 +41,7 @@ pub fn place(row: Region, domain: u16, off: u64, len: u64, need: Need) -> Result
     if row.domain != domain {
         return Err(Refusal::WrongDomain);
     }
-    if len == 0 || len > GREATEST_LENGTH {
+    if len == 0 || len > MAX_TRANSFER {
         return Err(Refusal::Length);
     }
     if past(row.len, off, len) {

@@ -9,7 +9,7 @@ use Rattle.std.proofs.lemmas.Fmt.{length-decimal-le}
 use Rattle.redn_words.specs.declared.types.Action.{Action}
 use Rattle.redn_words.specs.declared.types.Action.TheVariants.{Deliver, Fetch, Start, Land, Complete}
 use Rattle.redn_sched.specs.declared.text.Numbered.{Numbered}
-use Rattle.redn_sched.specs.Lines.{is_no_newline}
+use Rattle.redn_text.specs.Texts.{is_no_newline}
 use Rattle.redn_sched.specs.ScheduleText.{pair_text, action_text, Fits, IsAction, IsSkipped, IsBad, last_line, lines_after, Reads, Begins}
 use Rattle.redn_sched.specs.Pieces.{held_of}
 
@@ -19,10 +19,6 @@ small_digits n small = length-decimal-le 10 n (omega arith) (omega arith) (omega
 
 wide_digits : (n : ℕ) → n < 2 ^ 64 → length (decimal n) ≤ 20
 wide_digits n small = length-decimal-le 20 n (omega arith) (omega arith) small
-
--- behind its letter and a space
-lettered : (a b : ℕ) (text : List ℕ) (n : ℕ) → length text ≤ n → length (a ∷ b ∷ text) ≤ n + 2
-lettered a b text n l = omega (arith, l)
 
 pair_length : (q i : ℕ) → (q < 2 ^ 32) × (i < 2 ^ 64) → length (pair_text q i) ≤ 31
 pair_length q i fits = omega (arith, length-append (decimal q) (32 ∷ decimal i), small_digits q fits.0, wide_digits i fits.1)

@@ -174,10 +174,6 @@ module _ (s : State) (k : Shuffling) (c : ℕ) (q : Option ℕ) (is : IsDrawn s 
   pub some_next : (a : Action) → drawn (behind k.z) (candidates s c q) ≡ Some a → shuffled_next s k ≡ Some (a, record { z = behind (behind k.z); queues = moved_to k.queues c q })
   some_next a e = next ∙ rw e refl
 
--- where no chain is drawn there is none
-pub no_chain_drawn : (s : State) (k : Shuffling) → drawn k.z (acting s) ≡ None → shuffled_next s k ≡ None
-no_chain_drawn s k e = rw e refl
-
 -- lists that pass a test, one behind the other
 module _ {X : Type 0} (p : X → Bool) where
   pub one_more : (first mid last xs ys : List X) → mid ≡ first ++ filter p xs → last ≡ mid ++ filter p ys → last ≡ first ++ filter p (xs ++ ys)

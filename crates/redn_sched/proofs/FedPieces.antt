@@ -6,13 +6,13 @@ use Rattle.std.proofs.lemmas.List.{drop_all, drop_at, take_all, take-append-drop
 use Rattle.redn_sched.specs.declared.text.Numbered.{Numbered}
 use Rattle.redn_sched.specs.declared.reader.Got.{Got}
 use Rattle.redn_sched.specs.declared.reader.Got.TheVariants.{More, Action as AnAction, Bad}
-use Rattle.redn_sched.specs.Lines.{IsSplit, is_no_newline}
+use Rattle.redn_text.specs.Texts.{IsSplit, is_no_newline}
 use Rattle.redn_sched.specs.ScheduleText.{IsSkipped, last_line, lines_after, lines_of, Reads, Begins}
 use Rattle.redn_sched.specs.Pieces.{Reader, held_of, StillReads, ReadsOn, StillBegins, BeginsOn, actions_got, bad_got, behind_line, Takes, TakesWhole, TakesLine, FedBy, IsFed, EndsWith, EndedBy, IsEnded}
 use Rattle.redn_sched.proofs.Begun.{skipped_whole, action_whole, bad_whole, same_lines, same_lines_begin, begun_again, goes_on}
 use Rattle.redn_sched.proofs.Cuts.{reads_skipped, reads_action, reads_bad}
 use Rattle.redn_sched.proofs.Replay.{after_line}
-use Rattle.redn_sched.proofs.Fields.{front_has_none, space_first}
+use Rattle.redn_text.proofs.Fields.{front_has_none, space_first}
 
 -- of a line what is held was taken: so was the line
 pub takes_whole : (r : Reader) (line : List ℕ) (got : Got) (now : Reader) → Takes (record r { held = held_of line }) (held_of line) got now → Takes r line got now
@@ -64,23 +64,6 @@ module _ (r : Reader) (piece : List ℕ) (taken : ℕ) (got : Got) (now : Reader
 
   pub fed_reads : IsFed r piece taken got now → StillReads now (drop taken piece ++ text) xs bad → StillReads r (piece ++ text) (actions_got got ++ xs) bad
   fed_reads h k = by_bad r.bad refl h k
-
--- the end of the text
-ended_line : (r : Reader) (line : List ℕ) (got : Got) (now : Reader) → Takes r line got now → Reads (r.lines + 1) (line ∷ []) (actions_got got) (bad_got got)
-ended_line r line More now h = reads_skipped (r.lines + 1) line [] [] None h.0 tt
-ended_line r line (AnAction n a) now h = reads_action (r.lines + 1) line [] (record { line = n; action = a }) [] None h.0 h.1 tt
-ended_line r line (Bad n) now h = subst (λ (m : ℕ). Reads (r.lines + 1) (line ∷ []) [] (Some m)) (sym h.1) (reads_bad (r.lines + 1) line [] h.0)
-
-by_held : (r : Reader) (line : List ℕ) (got : Got) (now : Reader) → EndsWith line r got now → Reads (r.lines + 1) (last_line line) (actions_got got) (bad_got got)
-by_held r [] got now h = rw h.0 tt
-by_held r (b ∷ line) got now h = ended_line r (b ∷ line) got now h
-
-by_end : (r : Reader) (got : Got) (now : Reader) (o : Option ℕ) → EndedBy o r got now → ReadsOn o (r.lines + 1) (lines_after r.held []) (actions_got got) (bad_got got)
-by_end r got now None h = by_held r r.held got now h
-by_end r got now (Some n) h = (ap actions_got h.0, ap bad_got h.0)
-
-pub ended_reads : (r : Reader) (got : Got) (now : Reader) → IsEnded r got now → StillReads r [] (actions_got got) (bad_got got)
-ended_reads r got now h = by_end r got now r.bad h
 
 -- a text up to its first newline
 module _ (text : List ℕ) where
@@ -152,19 +135,3 @@ module _ (r : Reader) (piece : List ℕ) (taken : ℕ) (got : Got) (now : Reader
 
   pub fed_begins : IsFed r piece taken got now → StillBegins now (drop taken piece ++ text) xs → StillBegins r (piece ++ text) (actions_got got ++ xs)
   fed_begins h k = begins_by_bad r.bad refl h k
-
-ended_line_begins : (r : Reader) (line : List ℕ) (got : Got) (now : Reader) → Takes r line got now → Begins (r.lines + 1) (line ∷ []) (actions_got got)
-ended_line_begins r line More now h = tt
-ended_line_begins r line (AnAction n a) now h = inl (h.0, h.1, tt)
-ended_line_begins r line (Bad n) now h = tt
-
-begins_by_held : (r : Reader) (line : List ℕ) (got : Got) (now : Reader) → EndsWith line r got now → Begins (r.lines + 1) (last_line line) (actions_got got)
-begins_by_held r [] got now h = rw h.0 tt
-begins_by_held r (b ∷ line) got now h = ended_line_begins r (b ∷ line) got now h
-
-begins_by_end : (r : Reader) (got : Got) (now : Reader) (o : Option ℕ) → EndedBy o r got now → BeginsOn o (r.lines + 1) (lines_after r.held []) (actions_got got)
-begins_by_end r got now None h = begins_by_held r r.held got now h
-begins_by_end r got now (Some n) h = ap actions_got h.0
-
-pub ended_begins : (r : Reader) (got : Got) (now : Reader) → IsEnded r got now → StillBegins r [] (actions_got got)
-ended_begins r got now h = begins_by_end r got now r.bad h

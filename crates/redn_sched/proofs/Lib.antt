@@ -1,9 +1,8 @@
-pub mod Fields
 pub mod Cuts
 pub mod OneReading
 pub mod Readings
 pub mod Replay
-pub mod BadLines
+pub mod WorkedBadLines
 mod Worked
 mod WorkedFair
 pub mod Turning

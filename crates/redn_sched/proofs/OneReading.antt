@@ -6,7 +6,7 @@ use Rattle.redn_words.specs.declared.types.Action.{Action}
 use Rattle.redn_words.specs.declared.types.Action.TheVariants.{Deliver, Fetch, Start, Land, Complete}
 use Rattle.redn_sched.specs.declared.text.Numbered.{Numbered}
 use Rattle.redn_sched.specs.ScheduleText.{pair_text, action_text, Fits, IsAction, IsSkipped, Reads}
-use Rattle.redn_sched.proofs.Fields.{pair_split, same_split}
+use Rattle.redn_text.proofs.Fields.{pair_split, same_split}
 
 abbrev pub first_byte : List ℕ → ℕ
 first_byte [] = 0

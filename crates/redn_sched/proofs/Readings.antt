@@ -9,10 +9,10 @@ use Rattle.std.proofs.lemmas.Fmt.{decimal_is_IsNumeral, decimal_injective}
 use Rattle.redn_words.specs.declared.types.Action.{Action}
 use Rattle.redn_words.specs.declared.types.Action.TheVariants.{Deliver, Fetch, Start, Land, Complete}
 use Rattle.redn_sched.specs.declared.text.Numbered.{Numbered}
-use Rattle.redn_sched.specs.Lines.{is_not}
+use Rattle.redn_text.specs.Texts.{is_not}
 use Rattle.redn_sched.specs.ScheduleText.{pair_text, action_text, IsAction, IsSkipped, lines_of, Reads, Begins}
 use Rattle.redn_sched.specs.Laws.{EachTextIsRead, EachTextIsReadOnce, BeginningsAreRead}
-use Rattle.redn_sched.proofs.Fields.{pair_split, front_of, behind_of}
+use Rattle.redn_text.proofs.Fields.{pair_split, front_of, behind_of}
 use Rattle.redn_sched.proofs.OneReading.{one_action, no_skipped_action, one_reading}
 
 -- it is so, or it isn't

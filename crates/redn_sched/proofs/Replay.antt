@@ -6,9 +6,9 @@ use Rattle.std.proofs.lemmas.Bool.Decides.{nat_tests}
 use Rattle.redn_words.specs.declared.types.Action.{Action}
 use Rattle.redn_words.specs.declared.types.Action.TheVariants.{Deliver, Fetch, Start, Land, Complete}
 use Rattle.redn_sched.specs.declared.text.Numbered.{Numbered}
-use Rattle.redn_sched.specs.Lines.{is_no_newline}
+use Rattle.redn_text.specs.Texts.{is_no_newline}
 use Rattle.redn_sched.specs.ScheduleText.{pair_text, action_text, Fits, last_line, lines_after, lines_of, Reads, recorded, numbered}
-use Rattle.redn_sched.proofs.Fields.{and_left, and_right, all_append, decimal_all}
+use Rattle.redn_text.proofs.Fields.{and_left, and_right, all_append, decimal_all}
 use Rattle.redn_sched.proofs.Cuts.{reads_action}
 use Rattle.redn_sched.proofs.OneReading.{one_reading}
 
@@ -22,20 +22,6 @@ after_line front [] rest e = ap (λ l. l ∷ lines_of rest) (sym (append-nil fro
 after_line front (b ∷ line) rest e =
     let goes_on : (b == 10) ≡ false = is_false (b == 10) (and_left (is_no_newline b) _ e) in
     ap (λ v. cond v (front ∷ lines_of (line ++ 10 ∷ rest)) (lines_after (front ++ b ∷ []) (line ++ 10 ∷ rest))) goes_on ∙ after_line (front ++ b ∷ []) line rest (and_right (is_no_newline b) _ e) ∙ ap (λ l. l ∷ lines_of rest) (append_assoc front (b ∷ []) line)
-
--- a last line without its newline
-pub after_last : (front line : List ℕ) → list_all is_no_newline line ≡ true → lines_after front line ≡ last_line (front ++ line)
-after_last front [] e = ap last_line (sym (append-nil front))
-after_last front (b ∷ line) e =
-    let goes_on : (b == 10) ≡ false = is_false (b == 10) (and_left (is_no_newline b) _ e) in
-    ap (λ v. cond v (front ∷ lines_of line) (lines_after (front ++ b ∷ []) line)) goes_on ∙ after_last (front ++ b ∷ []) line (and_right (is_no_newline b) _ e) ∙ ap last_line (append_assoc front (b ∷ []) line)
-
--- lines with their newlines, and a last one without
-pub lines_joined : (lines : List (List ℕ)) (last : List ℕ) → list_all (list_all is_no_newline) lines ≡ true → list_all is_no_newline last ≡ true → lines_of (flat_map (λ l. l ++ codes "\n") lines ++ last) ≡ lines ++ last_line last
-lines_joined [] last e f = after_last [] last f
-lines_joined (line ∷ lines) last e f =
-    let rest = flat_map (λ l. l ++ codes "\n") lines in
-    ap lines_of (append_assoc (line ++ codes "\n") rest last ∙ append_assoc line (codes "\n") (rest ++ last)) ∙ after_line [] line (rest ++ last) (and_left (list_all is_no_newline line) _ e) ∙ ap (λ ls. line ∷ ls) (lines_joined lines last (and_right (list_all is_no_newline line) _ e) f)
 
 digit : (n : ℕ) → n < 10 → is_no_newline (48 + n) ≡ true
 digit n small = grind (arith, nat_tests)
@@ -68,10 +54,6 @@ read_back n [] fit = tt
 read_back n (a ∷ actions) fit =
     let cut : lines_of (recorded (a ∷ actions)) ≡ action_text a ∷ lines_of (recorded actions) = ap lines_of (append_assoc (action_text a) (codes "\n") (recorded actions)) ∙ after_line [] (action_text a) (recorded actions) (one_line a fit.0) in
     subst (λ (ls : List (List ℕ)). Reads n ls (numbered n (a ∷ actions)) None) (sym cut) (reads_action n (action_text a) (lines_of (recorded actions)) (record { line = n; action = a }) (numbered (n + 1) actions) None (record { text = refl; fits = fit.0 }) refl (read_back (n + 1) actions fit.1))
-
--- and to no others
-pub read_back_alone : (n : ℕ) (actions : List Action) (xs : List Numbered) (bad : Option ℕ) → AllFit actions → Reads n (lines_of (recorded actions)) xs bad → (xs ≡ numbered n actions) × (bad ≡ None)
-read_back_alone n actions xs bad fit r = one_reading n (lines_of (recorded actions)) xs (numbered n actions) bad None r (read_back n actions fit)
 
 -- with one more action
 pub all_fit_more : (actions : List Action) (a : Action) → AllFit actions → Fits a → AllFit (actions ++ a ∷ [])

@@ -7,7 +7,7 @@ use Rattle.redn_words.specs.declared.types.Action.TheVariants.{Deliver, Fetch, S
 use Rattle.redn_sched.specs.declared.text.Numbered.{Numbered}
 use Rattle.redn_sched.specs.ScheduleText.{action_text, lines_of, Reads}
 use Rattle.redn_sched.proofs.OneReading.{one_reading}
-use Rattle.redn_sched.proofs.BadLines.{a_leading_zero}
+use Rattle.redn_sched.proofs.WorkedBadLines.{a_leading_zero}
 
 deliver : action_text (Deliver 15) ≡ codes "d 15"
 unfolding action_text digits

@@ -6,7 +6,7 @@ use Rattle.redn_words.specs.declared.types.Action.TheVariants.{Fetch, Start}
 use Rattle.redn_sched.specs.declared.reader.Got.TheVariants.{More, Action as AnAction, Bad}
 use Rattle.redn_sched.specs.ScheduleText.{action_text, Reads, lines_of}
 use Rattle.redn_sched.specs.Pieces.{Reader, first_reader, held_of, IsFed, IsEnded, StillReads}
-use Rattle.redn_sched.proofs.BadLines.{a_leading_zero}
+use Rattle.redn_sched.proofs.WorkedBadLines.{a_leading_zero}
 
 reader : ℕ → List ℕ → Option ℕ → Reader
 reader lines held bad = record { lines = lines; held = held; bad = bad }

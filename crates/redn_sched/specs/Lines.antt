@@ -19,15 +19,3 @@ abbrev pub OnBad : Line → Type 0 → Type 0
 OnBad line.Skipped P = Unit {0}
 OnBad (line.Action a) P = Unit {0}
 OnBad line.Bad P = P
-
--- the byte isn't the separator
-abbrev pub is_not : ℕ → ℕ → Bool
-is_not separator b = not (b == separator)
-
--- the text before its first separator, and behind it
-pub record IsSplit (separator : ℕ) (text front behind : List ℕ) : Type 0 where
-  pub is : text ≡ front ++ separator ∷ behind
-  pub first : list_all (is_not separator) front ≡ true
-
-abbrev pub is_no_newline : ℕ → Bool
-is_no_newline b = not (b == 10)

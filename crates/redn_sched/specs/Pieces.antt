@@ -7,7 +7,7 @@ use Rattle.redn_sched.specs.declared.reader.Got.TheVariants.{More, Action as AnA
 use Rattle.redn_sched.specs.declared.reader.TheConstants.{HELD}
 use Rattle.redn_sched.specs.declared.reader.ScheduleReader.TheInside.{Inside}
 use Rattle.redn_sched.specs.ScheduleText.{IsSkipped, IsAction, IsBad, lines_after, Reads, Begins}
-use Rattle.redn_sched.specs.Lines.{IsSplit, is_no_newline}
+use Rattle.redn_text.specs.Texts.{IsSplit, is_no_newline}
 
 -- a reader between two pieces: how many lines it took, what it holds of the next one, and the bad line that it met
 pub record Reader : Type 0 where

@@ -14,7 +14,7 @@ pub use fair::Fair;
 pub use laws::{
     beginnings_are_read, each_text_is_read, each_text_is_read_once, made_runs_end_whole,
 };
-pub use line::{Line, read_line, read_number, read_small, split_field};
+pub use line::{Line, read_line};
 pub use reader::{Fed, Got, ScheduleReader};
 pub use shuffle::Shuffle;
 pub use text::Numbered;

@@ -2,8 +2,8 @@ ghost use Rattle.std.specs.Prelude.{◌≡◌, ◌^◌, ◌<◌, ◌≤◌, ◌+
 ghost use Rattle.redn_sched.specs.declared.text.Numbered.{Numbered};
 ghost use Rattle.redn_sched.specs.Pieces.{first_reader, held_of, StillReads, StillBegins, actions_got, bad_got, Takes, IsFed, IsEnded};
 
-use crate::line::{Line, line_len, read_line};
-use redn_trace::put_text;
+use crate::line::{Line, read_line};
+use redn_text::{line_len, put_text};
 use redn_words::Action;
 use std::marker::Model;
 

@@ -1,7 +1,7 @@
 ghost use Rattle.std.specs.Prelude.{◌≡◌, ◌≤◌, ◌+◌, ◌++◌, None, length, take, codes, decimal, IfOk};
 ghost use Rattle.redn_sched.specs.ScheduleText.{action_text, Fits, lines_of, Reads, numbered, recorded};
 
-use redn_trace::{put_number, put_text};
+use redn_text::{put_number, put_text};
 use redn_words::{Action, Memory};
 use std::alloc::Global;
 

@@ -2,7 +2,7 @@ ghost use Rattle.std.specs.Prelude.{◌≡◌, ◌<◌, ◌≤◌, ◌+◌, ◌+
 ghost use Rattle.redn_words.specs.declared.types.Obs.TheVariants as shows;
 ghost use Rattle.redn_trace.specs.EventText.{event_text, line as line_of, field, IsPrintable, IsOfTable};
 
-use crate::buffer::{put_number, put_text};
+use redn_text::{put_number, put_text};
 use redn_words::Obs;
 
 /// Puts a number behind a space.

@@ -17,7 +17,7 @@ use Rattle.redn_words.specs.declared.types.Opcode.TheVariants.{Noop, Write, Read
 use Rattle.redn_words.specs.Words.{bytes_at, word, spelled}
 use Rattle.redn_words.specs.Requests.{opcode_of}
 use Rattle.redn_words.specs.Access.{access, access_in, region_of, is_aligned, grants, EndsBy}
-use Rattle.redn_words.specs.declared.limits.TheConstants.{GREATEST_LENGTH}
+use Rattle.redn_words.specs.declared.limits.TheConstants.{MAX_TRANSFER}
 use Rattle.redn_words.specs.Ranges.{holds, within, Fits}
 use Rattle.redn_words.specs.Landings.{Landing, Change, change, done, refused, lands, landing, local_side, remote_side, two_sides, one_side, swap, sum_of, write_by, read_by, cas_by, add_by, send_by}
 use Rattle.redn_words.proofs.Numbers.{length-spelled}
@@ -119,7 +119,7 @@ pub record IsGranted (r : Region) (domain len : ℕ) (s : Spot) : Type 0 where
 pub granted : (r : Region) (domain off len : ℕ) (need : Need) (s : Spot) → access_in (Some r) domain off len need ≡ Ok s → IsGranted r domain len s
 granted r domain off len need s e =
     let a = guard (not (r.domain == domain)) no.WrongDomain _ s e in
-    let b = guard (len == 0 || nat_lt GREATEST_LENGTH len) no.Length _ s a.1 in
+    let b = guard (len == 0 || nat_lt MAX_TRANSFER len) no.Length _ s a.1 in
     let c = guard (nat_lt r.len (off + len)) no.Range _ s b.1 in
     let d = guard (not (is_aligned off need)) no.Unaligned _ s c.1 in
     let f = guard (not (grants r.rights need)) no.Rights _ s d.1 in

@@ -1,6 +1,8 @@
 -- Bytes, requests and accesses, computed.
-use Rattle.std.proofs.Common.{◌≡◌, ℕ, List, [], ◌∷◌, refl}
+use Rattle.std.proofs.Common.{◌≡◌, ℕ, true, false, List, [], ◌∷◌, refl}
 use Rattle.std.specs.Prelude.{Ok, Err}
+use Rattle.redn_words.specs.declared.limits.TheConstants.{MAX_MEMORY, MAX_QUEUES, MAX_RECEIVES, MAX_REGIONS, MAX_RING, MAX_SLOTS, MAX_TRANSFER, RECEIVE_BASE}
+use Rattle.redn_words.specs.declared.rights.TheConstants.{ATOMIC, LOCAL_WRITE, REMOTE_READ, REMOTE_WRITE}
 use Rattle.redn_words.specs.declared.types.Region.{Region}
 use Rattle.redn_words.specs.declared.types.Kind.TheVariants.{Vars, Table}
 use Rattle.redn_words.specs.declared.types.Need.TheVariants.{Any, LocalWrite, RemoteRead, RemoteWrite, Atomic}
@@ -8,7 +10,7 @@ use Rattle.redn_words.specs.declared.types.Refusal.TheVariants as no
 use Rattle.redn_words.specs.declared.types.Opcode.TheVariants as op
 use Rattle.redn_words.specs.Words.{word, number, spelled, bytes_at, with_bytes_at, low_48}
 use Rattle.redn_words.specs.Requests.{decoded, encoded, opcode_named}
-use Rattle.redn_words.specs.Access.{access}
+use Rattle.redn_words.specs.Access.{access, grants}
 
 nine_bytes : List ℕ
 nine_bytes = 9 ∷ 0 ∷ 0 ∷ 0 ∷ 0 ∷ 0 ∷ 0 ∷ 1 ∷ 2 ∷ []
@@ -94,3 +96,10 @@ unaligned = refl
 no_right : access rows 0 1 8 8 RemoteRead ≡ Err no.Rights
 unfolding rows access
 no_right = refl
+
+the_limits : (MAX_REGIONS ≡ 4096) × (MAX_QUEUES ≡ 65535) × (MAX_RECEIVES ≡ 16) × (MAX_SLOTS ≡ 524288) × (MAX_MEMORY ≡ 33554432) × (MAX_RING ≡ 65536) × (MAX_TRANSFER ≡ 1048576) × (RECEIVE_BASE ≡ 65536)
+the_limits = (refl, refl, refl, refl, refl, refl, refl, refl)
+
+-- each right grants what it is named for, and nothing else
+the_rights : (grants LOCAL_WRITE LocalWrite ≡ true) × (grants REMOTE_READ RemoteRead ≡ true) × (grants REMOTE_WRITE RemoteWrite ≡ true) × (grants ATOMIC Atomic ≡ true) × (grants REMOTE_READ RemoteWrite ≡ false)
+the_rights = (refl, refl, refl, refl, refl)

@@ -1,4 +1,5 @@
-use Rattle.redn_disasm.specs.Assembly.{Begun, lines_of}
+use Rattle.redn_disasm.specs.Assembly.{Begun}
+use Rattle.redn_text.specs.Texts.{lines_of}
 use Rattle.redn_disasm.proofs.OneOutcome.{one_outcome}
 use Rattle.redn_disasm.proofs.laws.a_text_has_one_meaning.Goals as goal
 

@@ -1,5 +1,5 @@
 use Rattle.std.proofs.Common.{◌^◌, ◌<◌, decimal, arith}
-use Rattle.redn_sched.proofs.Fields.{pair_split, same_split}
+use Rattle.redn_text.proofs.Fields.{pair_split, same_split}
 use Rattle.redn_sched.proofs.line.read_pair.Goals as goal
 
 pub returns-in_default-clause-none : goal.returns-in_default-clause-none

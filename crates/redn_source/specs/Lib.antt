@@ -1,0 +1,5 @@
+pub mod Tasks
+pub mod RunView
+pub mod StateView
+pub mod Starting
+pub mod Answered
