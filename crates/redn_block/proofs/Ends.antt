@@ -18,7 +18,7 @@ use Rattle.redn_graph.specs.declared.types.Block.{Block}
 use Rattle.redn_graph.specs.declared.types.Graph.{Graph}
 use Rattle.redn_graph.specs.Fits.{Things, IsCell, IsTarget, FitsEnd}
 use Rattle.redn_graph.specs.Run as run
-use Rattle.redn_graph.specs.Run.{GraphState, Way, To, Taking, Out, graph_step, graph_turn, block_turn, instr_or_end, end_does, state_on, stays}
+use Rattle.redn_graph.specs.Run.{Mail, GraphState, in_hand, Way, To, Taking, Out, graph_step, graph_turn, block_turn, instr_or_end, end_does, state_on, stays}
 use Rattle.redn_segment.specs.declared.types.SlotRef.{SlotRef}
 use Rattle.redn_segment.specs.declared.types.Space.TheVariants as space
 use Rattle.redn_segment.specs.Plain.{Bytes, View}
@@ -54,20 +54,27 @@ probed number to t last hit miss s o key looked loaded =
     if low_48 seen == low_48 key then (
     if lies_in loaded next then Leaves (chosen last hit (holding s (space.Cell to) value)) (look ∷ load_event number to t next (word value 0)) else Stops s (look ∷ shows.Fault number t next ∷ [])) else Leaves (chosen last miss s) (look ∷ [])) else Stops s (shows.Fault number t o ∷ [])
 
-module _ (c : ℕ) (words : List ℕ) (g : Graph) (n : Things) (first block : ℕ) (b : Block) (there : slice_get g.blocks block ≡ Some b) (x : GraphState) (at_x : IsAt block (length b.instrs) x) (behind : slice_get b.instrs (length b.instrs) ≡ None) where
+module _ (c : ℕ) (mail : Mail) (g : Graph) (n : Things) (first block : ℕ) (b : Block) (there : slice_get g.blocks block ≡ Some b) (x : GraphState) (at_x : IsAt block (length b.instrs) x)
+    (behind : slice_get b.instrs (length b.instrs) ≡ None) where
+  abbrev words : List ℕ
+  words = in_hand mail x
+
   -- the step of an end
-  step_end : (taking : Bool) (y : GraphState) → y.block ≡ block → y.place ≡ length b.instrs → y.ended ≡ false → y.taking ≡ taking → (tables : List (List ℕ)) → graph_step c words tables y g ≡ graph_turn y (end_does c words tables y.cells taking b.end)
+  step_end : (taking : Bool) (y : GraphState) → y.block ≡ block → y.place ≡ length b.instrs → y.ended ≡ false → y.taking ≡ taking → (tables : List (List ℕ)) →
+      graph_step c mail tables y g ≡ graph_turn y (end_does c (in_hand mail y) tables y.cells taking b.end)
   unfolding graph_step
   step_end taking y in_block at_end runs is tables =
-      ap (λ (e : Bool). cond e (stays tables y) (block_turn c words tables y (slice_get g.blocks y.block))) runs ∙ (ap (λ (k : ℕ). block_turn c words tables y (slice_get g.blocks k)) in_block ∙ ap (block_turn c words tables y) there ∙ ap (λ (k : ℕ). graph_turn y (instr_or_end c words tables y (slice_get b.instrs k) b.end)) at_end ∙ ap (λ o. graph_turn y (instr_or_end c words tables y o b.end)) behind ∙ ap (λ (t : Bool). graph_turn y (end_does c words tables y.cells t b.end)) is)
+      ap (λ (e : Bool). cond e (stays tables y) (block_turn c mail tables y (slice_get g.blocks y.block))) runs
+      ∙ (ap (λ (k : ℕ). block_turn c mail tables y (slice_get g.blocks k)) in_block ∙ ap (block_turn c mail tables y) there ∙ ap (λ (k : ℕ). graph_turn y (instr_or_end c mail tables y (slice_get b.instrs k) b.end)) at_end
+      ∙ ap (λ o. graph_turn y (instr_or_end c mail tables y o b.end)) behind ∙ ap (λ (t : Bool). graph_turn y (end_does c (in_hand mail y) tables y.cells t b.end)) is)
 
-  first_step : (tables : List (List ℕ)) → graph_step c words tables x g ≡ graph_turn x (end_does c words tables x.cells false b.end)
+  first_step : (tables : List (List ℕ)) → graph_step c mail tables x g ≡ graph_turn x (end_does c words tables x.cells false b.end)
   first_step tables = step_end false x at_x.block_is at_x.place_is at_x.runs_on at_x.taking_not tables
 
   -- what an effect has to be beside the graph
   abbrev pub AfterEnd : SlotRef → Bytes → Effect → Type 0
-  AfterEnd last s (Leaves t events) = (z : GraphState) × Leads c words g x events z × Same n words z.cells t × IsOver first last s z t
-  AfterEnd last s (Stops t events) = (z : GraphState) × Leads c words g x events z × (z.ended ≡ true)
+  AfterEnd last s (Leaves t events) = (z : GraphState) × Leads c mail g x events z × Same n (in_hand mail z) z.cells t × IsOver first last s z t
+  AfterEnd last s (Stops t events) = (z : GraphState) × Leads c mail g x events z × (z.ended ≡ true)
 
   module _ (view : View) (number : view.number ≡ c) (s : Bytes) (whole : IsWhole s) (same : Same n words x.cells s) (last : SlotRef) (long : length (s (space.Slot last)) ≡ 64) where
     value : (a : Cell) → IsCell n a → IsWord a → word_of s a ≡ held words x.cells a
@@ -88,7 +95,7 @@ module _ (c : ℕ) (words : List ℕ) (g : Graph) (n : Things) (first block : �
     goes_to : (k : ℕ) → ((tables : List (List ℕ)) → end_does c words tables x.cells false b.end ≡ run.goes c words tables x.cells (To k)) → AfterEnd last s (Leaves (chosen last (ring_of first k) s) [])
     goes_to k does = (
       onto k x.cells,
-      one_step c words g x (onto k x.cells) shows.Nothing [] (λ tables h. first_step tables ∙ ap (graph_turn x) (does tables)) refl,
+      one_step c mail g x (onto k x.cells) shows.Nothing [] (λ tables h. first_step tables ∙ ap (graph_turn x) (does tables)) refl,
       same_cells n words x.cells s (chosen last (ring_of first k) s) (λ a. refl) same,
       Onward k (onto_at k x.cells) (chooses k x.cells s refl refl),
     )
@@ -108,15 +115,15 @@ module _ (c : ℕ) (words : List ℕ) (g : Graph) (n : Things) (first block : �
       abbrev taking : GraphState
       taking = state_on x x.cells Taking
 
-      step_look : (tables : List (List ℕ)) → graph_step c words tables x g ≡ graph_turn x (run.looks c words tables x.cells t o (held words x.cells key) miss)
+      step_look : (tables : List (List ℕ)) → graph_step c mail tables x g ≡ graph_turn x (run.looks c words tables x.cells t o (held words x.cells key) miss)
       unfolding end_does
       step_look tables = first_step tables ∙ ap (λ (e : End). graph_turn x (end_does c words tables x.cells false e)) is
 
-      step_load : (tables : List (List ℕ)) → graph_step c words tables taking g ≡ graph_turn taking (run.loads c words tables x.cells to t (wrapped (o + 8)) (To hit))
+      step_load : (tables : List (List ℕ)) → graph_step c mail tables taking g ≡ graph_turn taking (run.loads c words tables x.cells to t (wrapped (o + 8)) (To hit))
       unfolding end_does
       step_load tables = step_end true taking at_x.block_is at_x.place_is refl refl tables ∙ ap (λ (e : End). graph_turn taking (end_does c words tables x.cells true e)) is
 
-      looks_by : (v : ℕ) (z : GraphState) (w : Way) → (if same_low v (held words x.cells key) then Taking else To miss) ≡ w → z ≡ state_on x x.cells w → StepTells c words g x (shows.Look c t o v) z
+      looks_by : (v : ℕ) (z : GraphState) (w : Way) → (if same_low v (held words x.cells key) then Taking else To miss) ≡ w → z ≡ state_on x x.cells w → StepTells c mail g x (shows.Look c t o v) z
       looks_by v z w e f tables h =
           step_look tables ∙ reads tables h ∙ ap (λ (y : GraphState). record { tables = tables; state = y; event = shows.Look c t o v }) (ap (state_on x x.cells) e ∙ sym f)
         where
@@ -125,20 +132,25 @@ module _ (c : ℕ) (words : List ℕ) (g : Graph) (n : Things) (first block : �
 
       look_faults : (at : ℕ) → at ≡ o → AfterEnd last s (Stops s (shows.Fault view.number t at ∷ []))
       look_faults at e =
-          let z : GraphState = state_on x x.cells Out in
-          (z, one_step c words g x z (shows.Fault c t o) (shows.Fault view.number t at ∷ []) (λ tables h. step_look tables ∙ rw h refl) (ap (λ (k : ℕ). shows.Fault k t o ∷ []) (sym number) ∙ ap (λ (k : ℕ). shows.Fault view.number t k ∷ []) (sym e)), refl)
+          let z : GraphState = state_on x x.cells Out in (
+            z,
+            one_step c mail g x z (shows.Fault c t o) (shows.Fault view.number t at ∷ []) (λ tables h. step_look tables ∙ rw h refl)
+                (ap (λ (k : ℕ). shows.Fault k t o ∷ []) (sym number) ∙ ap (λ (k : ℕ). shows.Fault view.number t k ∷ []) (sym e)),
+            refl,
+          )
 
       look_misses : (at v : ℕ) → at ≡ o → same_low v (held words x.cells key) ≡ false → AfterEnd last s (Leaves (chosen last (ring_of first miss) s) (shows.Look view.number t at v ∷ []))
       look_misses at v e other = (
         onto miss x.cells,
-        one_step c words g x (onto miss x.cells) (shows.Look c t o v) (shows.Look view.number t at v ∷ []) (looks_by v (onto miss x.cells) (To miss) (rw other refl) refl) (ap (λ (k : ℕ). shows.Look k t o v ∷ []) (sym number) ∙ ap (λ (k : ℕ). shows.Look view.number t k v ∷ []) (sym e)),
+        one_step c mail g x (onto miss x.cells) (shows.Look c t o v) (shows.Look view.number t at v ∷ []) (looks_by v (onto miss x.cells) (To miss) (rw other refl) refl)
+            (ap (λ (k : ℕ). shows.Look k t o v ∷ []) (sym number) ∙ ap (λ (k : ℕ). shows.Look view.number t k v ∷ []) (sym e)),
         same_cells n words x.cells s (chosen last (ring_of first miss) s) (λ a. refl) same,
         Onward miss (onto_at miss x.cells) (chooses miss x.cells s refl refl),
       )
 
       -- the load behind a look that matched
       module _ (at v next : ℕ) (e : at ≡ o) (f : next ≡ wrapped (o + 8)) (matches : same_low v (held words x.cells key) ≡ true) where
-        look_takes : StepTells c words g x (shows.Look c t o v) taking
+        look_takes : StepTells c mail g x (shows.Look c t o v) taking
         look_takes = looks_by v taking Taking (rw matches refl) refl
 
         abbrev look_is : (e : at ≡ o) → shows.Look c t o v ≡ shows.Look view.number t at v
@@ -147,15 +159,22 @@ module _ (c : ℕ) (words : List ℕ) (g : Graph) (n : Things) (first block : �
         load_faults : AfterEnd last s (Stops s (shows.Look view.number t at v ∷ shows.Fault view.number t next ∷ []))
         load_faults =
             let z : GraphState = state_on taking x.cells Out in
-            let fault_is : shows.Fault c t (wrapped (o + 8)) ≡ shows.Fault view.number t next = ap (λ (k : ℕ). shows.Fault k t (wrapped (o + 8))) (sym number) ∙ ap (λ (k : ℕ). shows.Fault view.number t k) (sym f) in
-            (z, two_steps c words g x taking z (shows.Look c t o v) (shows.Fault c t (wrapped (o + 8))) _ look_takes (λ tables h. step_load tables ∙ rw h refl) (ap (λ (p : Obs). p ∷ shows.Fault c t (wrapped (o + 8)) ∷ []) (look_is e) ∙ ap (λ (p : Obs). shows.Look view.number t at v ∷ p ∷ []) fault_is), refl)
+            let fault_is : shows.Fault c t (wrapped (o + 8)) ≡ shows.Fault view.number t next = ap (λ (k : ℕ). shows.Fault k t (wrapped (o + 8))) (sym number) ∙ ap (λ (k : ℕ). shows.Fault view.number t k) (sym f) in (
+              z,
+              two_steps c mail g x taking z (shows.Look c t o v) (shows.Fault c t (wrapped (o + 8))) _ look_takes (λ tables h. step_load tables ∙ rw h refl)
+                  (ap (λ (p : Obs). p ∷ shows.Fault c t (wrapped (o + 8)) ∷ []) (look_is e) ∙ ap (λ (p : Obs). shows.Look view.number t at v ∷ p ∷ []) fault_is),
+              refl,
+            )
 
         load_goes : (bytes : List ℕ) → AfterEnd last s (Leaves (chosen last (ring_of first hit) (holding s (space.Cell to) bytes)) (shows.Look view.number t at v ∷ load_event view.number to t next (word bytes 0)))
         load_goes bytes =
             let w : ℕ = word bytes 0 in
             let z : GraphState = onto hit (put x.cells to w) in (
               z,
-              two_steps c words g x taking z (shows.Look c t o v) (shown_load c to t (wrapped (o + 8)) w) _ look_takes (λ tables h. step_load tables ∙ reads tables (true_of_load n tables c to t (wrapped (o + 8)) w target h) ∙ ap (λ (k : List (List ℕ)). record { tables = k; state = z; event = shown_load c to t (wrapped (o + 8)) w }) (sym (stored_by_load tables c to t (wrapped (o + 8)) w))) (ap (λ (p : Obs). p ∷ shown_load c to t (wrapped (o + 8)) w ∷ []) (look_is e) ∙ ap (λ (l : List Obs). shows.Look view.number t at v ∷ l) (load_alone n c to t (wrapped (o + 8)) w target ∙ ap (λ (k : ℕ). load_event k to t (wrapped (o + 8)) w) (sym number) ∙ ap (λ (k : ℕ). load_event view.number to t k w) (sym f))),
+              two_steps c mail g x taking z (shows.Look c t o v) (shown_load c to t (wrapped (o + 8)) w) _ look_takes
+                  (λ tables h. step_load tables ∙ reads tables (true_of_load n tables c to t (wrapped (o + 8)) w target h) ∙ ap (λ (k : List (List ℕ)). record { tables = k; state = z; event = shown_load c to t (wrapped (o + 8)) w })
+                  (sym (stored_by_load tables c to t (wrapped (o + 8)) w))) (ap (λ (p : Obs). p ∷ shown_load c to t (wrapped (o + 8)) w ∷ []) (look_is e) ∙ ap (λ (l : List Obs). shows.Look view.number t at v ∷ l)
+                  (load_alone n c to t (wrapped (o + 8)) w target ∙ ap (λ (k : ℕ). load_event k to t (wrapped (o + 8)) w) (sym number) ∙ ap (λ (k : ℕ). load_event view.number to t k w) (sym f))),
               same_cells n words (put x.cells to w) (holding s (space.Cell to) bytes) (chosen last (ring_of first hit) (holding s (space.Cell to) bytes)) (λ a. refl) (same_put n words x.cells s same bytes w refl to target),
               Onward hit (onto_at hit (put x.cells to w)) (chooses hit (put x.cells to w) (holding s (space.Cell to) bytes) refl refl),
             )
@@ -199,7 +218,10 @@ module _ (c : ℕ) (words : List ℕ) (g : Graph) (n : Things) (first block : �
         let long : length (map (held words x.cells) cells) ≡ length cells = length-map cells (held words x.cells) in
         let eight_are : replied s cells ≡ eight (map (held words x.cells) cells) = eight_words (map (word_of s) cells) (omega (arith, length-map cells (word_of s))) ∙ ap eight held_are in (
           z,
-          one_step c words g x z (shows.Reply c (length (map (held words x.cells) cells)) (eight (map (held words x.cells) cells))) _ (λ tables h. first_step tables ∙ ap (λ (e : End). graph_turn x (end_does c words tables x.cells false e)) is) (ap (λ (k : ℕ). shows.Reply k (length (map (held words x.cells) cells)) (eight (map (held words x.cells) cells)) ∷ []) (sym number) ∙ ap (λ (k : ℕ). shows.Reply view.number k (eight (map (held words x.cells) cells)) ∷ []) long ∙ ap (λ (l : List ℕ). shows.Reply view.number (length cells) l ∷ []) (sym eight_are)),
+          one_step c mail g x z (shows.Reply c (length (map (held words x.cells) cells)) (eight (map (held words x.cells) cells))) _
+              (λ tables h. first_step tables ∙ ap (λ (e : End). graph_turn x (end_does c words tables x.cells false e)) is)
+              (ap (λ (k : ℕ). shows.Reply k (length (map (held words x.cells) cells)) (eight (map (held words x.cells) cells)) ∷ []) (sym number)
+              ∙ ap (λ (k : ℕ). shows.Reply view.number k (eight (map (held words x.cells) cells)) ∷ []) long ∙ ap (λ (l : List ℕ). shows.Reply view.number (length cells) l ∷ []) (sym eight_are)),
           same,
           Ended refl,
         )
@@ -212,19 +234,24 @@ last_slot at (Test64 left right met unmet) = slots_from at 10
 last_slot at (Probe to t offset key hit miss) = slots_from at 15
 last_slot at (Reply words) = slots_from at (length words + 1)
 
-module _ (c : ℕ) (words : List ℕ) (g : Graph) (n : Things) (first block : ℕ) (b : Block) (there : slice_get g.blocks block ≡ Some b) (x : GraphState) (at_x : IsAt block (length b.instrs) x) (behind : slice_get b.instrs (length b.instrs) ≡ None) (view : View) (number : view.number ≡ c) (s : Bytes) (whole : IsWhole s) (same : Same n words x.cells s) (at : SlotRef) where
+module _ (c : ℕ) (mail : Mail) (g : Graph) (n : Things) (first block : ℕ) (b : Block) (there : slice_get g.blocks block ≡ Some b) (x : GraphState) (at_x : IsAt block (length b.instrs) x)
+    (behind : slice_get b.instrs (length b.instrs) ≡ None) (view : View) (number : view.number ≡ c) (s : Bytes) (whole : IsWhole s) (same : Same n (in_hand mail x) x.cells s) (at : SlotRef) where
   -- each end does beside the graph what its part does
-  pub end_follows : (e : End) → b.end ≡ e → FitsEnd n e → EndWords e → length (s (space.Slot (last_slot at e))) ≡ 64 → AfterEnd c words g n first block b there x at_x behind (last_slot at e) s (part_effect at (end_part first e) view s)
+  pub end_follows : (e : End) → b.end ≡ e → FitsEnd n e → EndWords e → length (s (space.Slot (last_slot at e))) ≡ 64 → AfterEnd c mail g n first block b there x at_x behind (last_slot at e) s (part_effect at (end_part first e) view s)
   unfolding end_does
-  end_follows (Jump to) is fits small long = goes_to c words g n first block b there x at_x behind view number s whole same (slots_from at 1) long to (λ tables. ap (end_does c words tables x.cells false) is)
+  end_follows (Jump to) is fits small long = goes_to c mail g n first block b there x at_x behind view number s whole same (slots_from at 1) long to (λ tables. ap (end_does c (in_hand mail x) tables x.cells false) is)
   end_follows (Test48 left right met unmet) is fits small long =
       let l = same.cells left fits.0 small.0 in
       let r = same.cells right fits.1 small.1 in
-      goes_by c words g n first block b there x at_x behind view number s whole same (slots_from at 6) long (low_48 (word_of s left) == low_48 (word_of s right)) (same_low (held words x.cells left) (held words x.cells right)) met unmet (ap (λ (k : ℕ). low_48 k == low_48 (word_of s right)) l ∙ ap (λ (k : ℕ). low_48 (held words x.cells left) == low_48 k) r) (λ tables. ap (end_does c words tables x.cells false) is)
+      goes_by c mail g n first block b there x at_x behind view number s whole same (slots_from at 6) long (low_48 (word_of s left) == low_48 (word_of s right))
+      (same_low (held (in_hand mail x) x.cells left) (held (in_hand mail x) x.cells right)) met unmet (ap (λ (k : ℕ). low_48 k == low_48 (word_of s right)) l ∙ ap (λ (k : ℕ). low_48 (held (in_hand mail x) x.cells left) == low_48 k) r)
+      (λ tables. ap (end_does c (in_hand mail x) tables x.cells false) is)
   end_follows (Test64 left right met unmet) is fits small long =
       let l = same.cells left fits.0 small.0 in
       let r = same.cells right fits.1 small.1 in
-      goes_by c words g n first block b there x at_x behind view number s whole same (slots_from at 10) long (word_of s left == word_of s right) (held words x.cells left == held words x.cells right) met unmet (ap (λ (k : ℕ). k == word_of s right) l ∙ ap (λ (k : ℕ). held words x.cells left == k) r) (λ tables. ap (end_does c words tables x.cells false) is)
+      goes_by c mail g n first block b there x at_x behind view number s whole same (slots_from at 10) long (word_of s left == word_of s right) (held (in_hand mail x) x.cells left == held (in_hand mail x) x.cells right) met unmet
+      (ap (λ (k : ℕ). k == word_of s right) l ∙ ap (λ (k : ℕ). held (in_hand mail x) x.cells left == k) r) (λ tables. ap (end_does c (in_hand mail x) tables x.cells false) is)
   end_follows (Probe to t offset key hit miss) is fits small long =
-      probe_follows c words g n first block b there x at_x behind view number s whole same (slots_from at 15) long to t offset key hit miss is fits.0 (word_of s offset) (word_of s key) (view.tables (slots_from at 6) t) (view.tables (slots_from at 13) t) (same.cells offset fits.2 small.0) (same.cells key fits.3 small.1)
-  end_follows (Reply cells) is fits small long = reply_follows c words g n first block b there x at_x behind view number s whole same (slots_from at (length cells + 1)) long cells is fits.0 small fits.2
+      probe_follows c mail g n first block b there x at_x behind view number s whole same (slots_from at 15) long to t offset key hit miss is fits.0 (word_of s offset) (word_of s key) (view.tables (slots_from at 6) t)
+      (view.tables (slots_from at 13) t) (same.cells offset fits.2 small.0) (same.cells key fits.3 small.1)
+  end_follows (Reply cells) is fits small long = reply_follows c mail g n first block b there x at_x behind view number s whole same (slots_from at (length cells + 1)) long cells is fits.0 small fits.2

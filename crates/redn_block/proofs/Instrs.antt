@@ -14,7 +14,7 @@ use Rattle.redn_graph.specs.declared.types.Block.{Block}
 use Rattle.redn_graph.specs.declared.types.Graph.{Graph}
 use Rattle.redn_graph.specs.Fits.{Things, IsCell, IsTarget, FitsInstr}
 use Rattle.redn_graph.specs.Run as run
-use Rattle.redn_graph.specs.Run.{GraphState, GraphTurn, Way, On, Out, graph_step, graph_turn, block_turn, instr_or_end, instr_does, state_on, stays}
+use Rattle.redn_graph.specs.Run.{Mail, GraphState, in_hand, GraphTurn, Way, On, Out, graph_step, graph_turn, block_turn, instr_or_end, instr_does, state_on, stays}
 use Rattle.redn_segment.specs.declared.types.SlotRef.{SlotRef}
 use Rattle.redn_segment.specs.declared.types.Space.TheVariants as space
 use Rattle.redn_segment.specs.Plain as plain
@@ -27,12 +27,12 @@ use Rattle.redn_block.specs.Matches.{Same, IsAt}
 use Rattle.redn_block.proofs.Spelled.{word_spelled}
 use Rattle.redn_block.proofs.Cells.{same_put, same_cells, cell_of_target}
 
-module _ (c : ℕ) (words : List ℕ) (g : Graph) where
+module _ (c : ℕ) (mail : Mail) (g : Graph) where
   -- one step shows one event
-  pub one_step : (x z : GraphState) (e : Obs) (events : List Obs) → StepTells c words g x e z → told e ≡ events → Leads c words g x events z
-  one_step x z e events tells is = subst (λ (l : List Obs). Leads c words g x l z) is (alone e tells)
+  pub one_step : (x z : GraphState) (e : Obs) (events : List Obs) → StepTells c mail g x e z → told e ≡ events → Leads c mail g x events z
+  one_step x z e events tells is = subst (λ (l : List Obs). Leads c mail g x l z) is (alone e tells)
     where
-      alone : (e : Obs) → StepTells c words g x e z → Leads c words g x (told e) z
+      alone : (e : Obs) → StepTells c mail g x e z → Leads c mail g x (told e) z
       alone shows.Nothing tells = tells
       alone (shows.Set c x w) tells = (z, tells, refl)
       alone (shows.Load c x t o w) tells = (z, tells, refl)
@@ -46,8 +46,8 @@ module _ (c : ℕ) (words : List ℕ) (g : Graph) where
       alone (shows.Odd q i) tells = (z, tells, refl)
 
   -- two steps show two events
-  pub two_steps : (x y z : GraphState) (e f : Obs) (events : List Obs) → StepTells c words g x e y → StepTells c words g y f z → e ∷ f ∷ [] ≡ events → Leads c words g x events z
-  two_steps x y z e f events first second is = subst (λ (l : List Obs). Leads c words g x l z) is (y, first, (z, second, refl))
+  pub two_steps : (x y z : GraphState) (e f : Obs) (events : List Obs) → StepTells c mail g x e y → StepTells c mail g y f z → e ∷ f ∷ [] ≡ events → Leads c mail g x events z
+  two_steps x y z e f events first second is = subst (λ (l : List Obs). Leads c mail g x l z) is (y, first, (z, second, refl))
 
 -- events of targets
 set_told : (n : Things) (c : ℕ) (to : Cell) (v w : ℕ) → IsTarget n to → w ≡ v → told (shown_put c to v) ≡ set_event c to w
@@ -83,12 +83,17 @@ pub stored_by_load : (tables : List (List ℕ)) (c : ℕ) (to : Cell) (t o w : �
 stored_by_load tables c (Var x) t o w = refl
 stored_by_load tables c _ t o w = refl
 
-module _ (c : ℕ) (words : List ℕ) (g : Graph) (n : Things) (block place : ℕ) (b : Block) (there : slice_get g.blocks block ≡ Some b) (x : GraphState) (at_x : IsAt block place x) where
+module _ (c : ℕ) (mail : Mail) (g : Graph) (n : Things) (block place : ℕ) (b : Block) (there : slice_get g.blocks block ≡ Some b) (x : GraphState) (at_x : IsAt block place x) where
+  abbrev words : List ℕ
+  words = in_hand mail x
+
   -- the step of an instruction
-  pub step_is : (i : Instr) → slice_get b.instrs place ≡ Some i → (tables : List (List ℕ)) → graph_step c words tables x g ≡ graph_turn x (instr_does c words tables x.cells i)
+  pub step_is : (i : Instr) → slice_get b.instrs place ≡ Some i → (tables : List (List ℕ)) → graph_step c mail tables x g ≡ graph_turn x (instr_does c words tables x.cells i)
   unfolding graph_step
   step_is i its tables =
-      ap (λ (e : Bool). cond e (stays tables x) (block_turn c words tables x (slice_get g.blocks x.block))) at_x.runs_on ∙ (ap (λ (k : ℕ). block_turn c words tables x (slice_get g.blocks k)) at_x.block_is ∙ ap (block_turn c words tables x) there ∙ ap (λ (k : ℕ). graph_turn x (instr_or_end c words tables x (slice_get b.instrs k) b.end)) at_x.place_is ∙ ap (λ o. graph_turn x (instr_or_end c words tables x o b.end)) its)
+      ap (λ (e : Bool). cond e (stays tables x) (block_turn c mail tables x (slice_get g.blocks x.block))) at_x.runs_on
+      ∙ (ap (λ (k : ℕ). block_turn c mail tables x (slice_get g.blocks k)) at_x.block_is ∙ ap (block_turn c mail tables x) there ∙ ap (λ (k : ℕ). graph_turn x (instr_or_end c mail tables x (slice_get b.instrs k) b.end)) at_x.place_is
+      ∙ ap (λ o. graph_turn x (instr_or_end c mail tables x o b.end)) its)
 
   abbrev pub next : Cells → GraphState
   next s = state_on x s On
@@ -98,8 +103,8 @@ module _ (c : ℕ) (words : List ℕ) (g : Graph) (n : Things) (block place : �
 
   -- what an effect has to be beside the graph
   abbrev pub After : Bytes → Effect → Type 0
-  After s (Leaves t events) = (z : GraphState) × Leads c words g x events z × Same n words z.cells t × IsAt block (suc place) z × ((r : ℕ) → t (space.Descriptor r) ≡ s (space.Descriptor r))
-  After s (Stops t events) = (z : GraphState) × Leads c words g x events z × (z.ended ≡ true)
+  After s (Leaves t events) = (z : GraphState) × Leads c mail g x events z × Same n (in_hand mail z) z.cells t × IsAt block (suc place) z × ((r : ℕ) → t (space.Descriptor r) ≡ s (space.Descriptor r))
+  After s (Stops t events) = (z : GraphState) × Leads c mail g x events z × (z.ended ≡ true)
 
   module _ (view : View) (number : view.number ≡ c) (s : Bytes) (whole : IsWhole s) (same : Same n words x.cells s) where
     -- a cell gets a word, and that is shown
@@ -107,7 +112,9 @@ module _ (c : ℕ) (words : List ℕ) (g : Graph) (n : Things) (block place : �
     puts i its to l bytes v w is same_word does =
         let z : GraphState = next (put x.cells to v) in (
           z,
-          one_step c words g x z (shown_put c to v) (set_event view.number to w) (λ tables h. step_is i its tables ∙ ap (graph_turn x) (does tables) ∙ ap (λ (t : List (List ℕ)). record { tables = t; state = z; event = shown_put c to v }) (sym (true_of_put tables c to v))) (set_told n c to v w l same_word ∙ ap (λ (k : ℕ). set_event k to w) (sym number)),
+          one_step c mail g x z (shown_put c to v) (set_event view.number to w)
+              (λ tables h. step_is i its tables ∙ ap (graph_turn x) (does tables) ∙ ap (λ (t : List (List ℕ)). record { tables = t; state = z; event = shown_put c to v }) (sym (true_of_put tables c to v)))
+              (set_told n c to v w l same_word ∙ ap (λ (k : ℕ). set_event k to w) (sym number)),
           same_put n words x.cells s same bytes v is to l,
           next_at (put x.cells to v),
           λ r. refl,
@@ -122,7 +129,7 @@ module _ (c : ℕ) (words : List ℕ) (g : Graph) (n : Things) (block place : �
         let v : ℕ = word bytes 0 in
         let z : GraphState = next (put x.cells to v) in (
           z,
-          one_step c words g x z (shown_load c to t p v) (load_event view.number to t o v) (λ tables h.
+          one_step c mail g x z (shown_load c to t p v) (load_event view.number to t o v) (λ tables h.
               let saw = true_of_load n tables c to t p v l h in
               step_is i its tables ∙ ap (graph_turn x) (does tables) ∙ reads tables saw ∙ ap (λ (k : List (List ℕ)). record { tables = k; state = z; event = shown_load c to t p v }) (sym (stored_by_load tables c to t p v))) (load_told n c to t p v l ∙ ap (λ (k : ℕ). load_event k to t p v) (sym number) ∙ ap (λ (k : ℕ). load_event view.number to t k v) (sym e)),
           same_put n words x.cells s same bytes v refl to l,
@@ -138,7 +145,8 @@ module _ (c : ℕ) (words : List ℕ) (g : Graph) (n : Things) (block place : �
     loaded i its to l t o p bytes e does false =
         let z : GraphState = state_on x x.cells Out in (
           z,
-          one_step c words g x z (shows.Fault c t p) (shows.Fault view.number t o ∷ []) (λ tables h. step_is i its tables ∙ ap (graph_turn x) (does tables) ∙ rw h refl) (ap (λ (k : ℕ). shows.Fault k t p ∷ []) (sym number) ∙ ap (λ (k : ℕ). shows.Fault view.number t k ∷ []) (sym e)),
+          one_step c mail g x z (shows.Fault c t p) (shows.Fault view.number t o ∷ []) (λ tables h. step_is i its tables ∙ ap (graph_turn x) (does tables) ∙ rw h refl)
+              (ap (λ (k : ℕ). shows.Fault k t p ∷ []) (sym number) ∙ ap (λ (k : ℕ). shows.Fault view.number t k ∷ []) (sym e)),
           refl,
         )
 
@@ -146,7 +154,8 @@ module _ (c : ℕ) (words : List ℕ) (g : Graph) (n : Things) (block place : �
     stored_there i its t o p v w bytes e f does true =
         let z : GraphState = next x.cells in (
           z,
-          one_step c words g x z (shows.Store c t p v) (shows.Store view.number t o w ∷ []) (λ tables h. step_is i its tables ∙ ap (graph_turn x) (does tables) ∙ rw h refl) (ap (λ (k : ℕ). shows.Store k t p v ∷ []) (sym number) ∙ ap (λ (k : ℕ). shows.Store view.number t k v ∷ []) (sym e) ∙ ap (λ (k : ℕ). shows.Store view.number t o k ∷ []) (sym f)),
+          one_step c mail g x z (shows.Store c t p v) (shows.Store view.number t o w ∷ []) (λ tables h. step_is i its tables ∙ ap (graph_turn x) (does tables) ∙ rw h refl)
+              (ap (λ (k : ℕ). shows.Store k t p v ∷ []) (sym number) ∙ ap (λ (k : ℕ). shows.Store view.number t k v ∷ []) (sym e) ∙ ap (λ (k : ℕ). shows.Store view.number t o k ∷ []) (sym f)),
           same_cells n words x.cells s (with_put s (plain.put (space.Table t) o bytes)) (λ a. refl) same,
           next_at x.cells,
           λ r. refl,
@@ -154,7 +163,8 @@ module _ (c : ℕ) (words : List ℕ) (g : Graph) (n : Things) (block place : �
     stored_there i its t o p v w bytes e f does false =
         let z : GraphState = state_on x x.cells Out in (
           z,
-          one_step c words g x z (shows.Fault c t p) (shows.Fault view.number t o ∷ []) (λ tables h. step_is i its tables ∙ ap (graph_turn x) (does tables) ∙ rw h refl) (ap (λ (k : ℕ). shows.Fault k t p ∷ []) (sym number) ∙ ap (λ (k : ℕ). shows.Fault view.number t k ∷ []) (sym e)),
+          one_step c mail g x z (shows.Fault c t p) (shows.Fault view.number t o ∷ []) (λ tables h. step_is i its tables ∙ ap (graph_turn x) (does tables) ∙ rw h refl)
+              (ap (λ (k : ℕ). shows.Fault k t p ∷ []) (sym number) ∙ ap (λ (k : ℕ). shows.Fault view.number t k ∷ []) (sym e)),
           refl,
         )
 

@@ -86,7 +86,7 @@ at b place vars = record { block = b; place = place; taking = false; cells = rec
 abbrev leads : List Lead
 leads = record { shows = shows.Set 2 0 7 ∷ []; state = at 0 1 (7 ∷ 2 ∷ []) } ∷ record { shows = shows.Set 2 1 9 ∷ []; state = at 0 2 (7 ∷ 9 ∷ []) } ∷ record { shows = []; state = at 1 0 (7 ∷ 9 ∷ []) } ∷ []
 
-they_lead : AllLead 2 [] graph (at 0 0 (5 ∷ 2 ∷ [])) leads
+they_lead : AllLead 2 (record { words = [] }) graph (at 0 0 (5 ∷ 2 ∷ [])) leads
 unfolding graph_step instr_does end_does
 they_lead = ((at 0 1 (7 ∷ 2 ∷ []), (λ tables is. refl), refl), ((at 0 2 (7 ∷ 9 ∷ []), (λ tables is. refl), refl), ((λ tables is. refl), tt)))
 

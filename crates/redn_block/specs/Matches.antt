@@ -6,7 +6,7 @@ use Rattle.redn_kernel.specs.CoreRun.{Cells, held}
 use Rattle.redn_graph.specs.declared.types.Block.{Block}
 use Rattle.redn_graph.specs.declared.types.Graph.{Graph}
 use Rattle.redn_graph.specs.Fits.{Things, IsCell, FitsBlock}
-use Rattle.redn_graph.specs.Run.{GraphState}
+use Rattle.redn_graph.specs.Run.{Mail, GraphState, in_hand}
 use Rattle.redn_segment.specs.declared.types.SlotRef.{SlotRef}
 use Rattle.redn_segment.specs.declared.types.Draft.{Draft}
 use Rattle.redn_segment.specs.declared.types.Space.TheVariants as space
@@ -38,12 +38,12 @@ pub data IsOver (first : ℕ) (last : SlotRef) (s : Bytes) (z : GraphState) (t :
   Onward : (block : ℕ) → IsAt block 0 z → Chooses first last s t z → IsOver first last s z t
   Ended : z.ended ≡ true → IsOver first last s z t
 
-module _ (chain : ℕ) (words : List ℕ) (g : Graph) (n : Things) where
+module _ (chain : ℕ) (mail : Mail) (g : Graph) (n : Things) where
   -- drafts leave what the steps of the graph leave that show the same, or both end by a fault
   abbrev pub Beside : GraphState → (GraphState → Bytes → Type 0) → Bytes → Outcome → Type 0
   Beside x Then s (Went us events) =
-      (z : GraphState) × Played chain words g x events z × Same n words z.cells (placed s us) × Then z (placed s us)
-  Beside x Then s (Faults us events) = (z : GraphState) × Played chain words g x events z × (z.ended ≡ true)
+      (z : GraphState) × Played chain mail g x events z × Same n (in_hand mail z) z.cells (placed s us) × Then z (placed s us)
+  Beside x Then s (Faults us events) = (z : GraphState) × Played chain mail g x events z × (z.ended ≡ true)
   Beside x Then s Bad = ⊥
 
   -- from every state in which their slots are primed, the drafts of a block do what the graph's steps do from its beginning on
@@ -51,11 +51,11 @@ module _ (chain : ℕ) (words : List ℕ) (g : Graph) (n : Things) where
   DraftsFollow first ring block b =
       let ds : List Draft = drafts_of (block_segments first ring b) in
       (view : View) → view.number ≡ chain → SeesBytes view → (s : Bytes) → IsWhole s → HasRoom s → Primed ds (ring_start ring) ds s
-      → (x : GraphState) → IsAt block 0 x → Same n words x.cells s
+      → (x : GraphState) → IsAt block 0 x → Same n (in_hand mail x) x.cells s
       → Beside x (IsOver first (slot_behind (ring_start ring) (length ds)) s) s (runs view (ring_start ring) ds s)
 
--- so for each block of a graph, whatever its chain's number and message are
+-- so for each block of a graph, whatever its chain's number and mail are
 abbrev pub BlockFollows : ℕ → ℕ → Block → Type 0
 BlockFollows first ring b =
-    (chain : ℕ) (words : List ℕ) (g : Graph) (n : Things) (block : ℕ) → slice_get g.blocks block ≡ Some b → FitsBlock n b
-    → DraftsFollow chain words g n first ring block b
+    (chain : ℕ) (mail : Mail) (g : Graph) (n : Things) (block : ℕ) → slice_get g.blocks block ≡ Some b → FitsBlock n b
+    → DraftsFollow chain mail g n first ring block b

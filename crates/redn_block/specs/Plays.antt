@@ -4,7 +4,7 @@ use Rattle.redn_words.specs.declared.types.Obs.{Obs}
 use Rattle.redn_words.specs.declared.types.Obs.TheVariants as shows
 use Rattle.redn_kernel.specs.Source.{has_word, word_in, with_word_in}
 use Rattle.redn_graph.specs.declared.types.Graph.{Graph}
-use Rattle.redn_graph.specs.Run.{GraphState, graph_step}
+use Rattle.redn_graph.specs.Run.{Mail, GraphState, graph_step}
 
 -- what an event says of the tables that it found
 abbrev pub IsTrueOf : List (List ℕ) → Obs → Type 0
@@ -37,11 +37,11 @@ abbrev pub last_state : GraphState → List Lead → GraphState
 last_state x [] = x
 last_state x (l ∷ rest) = last_state l.state rest
 
-module _ (c : ℕ) (words : List ℕ) (g : Graph) where
+module _ (c : ℕ) (mail : Mail) (g : Graph) where
   -- chain c makes a step that shows this event, over all tables of which the event is true
   abbrev pub StepTells : GraphState → Obs → GraphState → Type 0
   StepTells x e y =
-      (tables : List (List ℕ)) → IsTrueOf tables e → graph_step c words tables x g ≡ record { tables = stored tables e; state = y; event = e }
+      (tables : List (List ℕ)) → IsTrueOf tables e → graph_step c mail tables x g ≡ record { tables = stored tables e; state = y; event = e }
 
   -- each step shows an event
   abbrev pub EventSteps : GraphState → List Obs → GraphState → Type 0

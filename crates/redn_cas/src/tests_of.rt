@@ -1,4 +1,5 @@
-ghost use Rattle.std.specs.Prelude.{◌≡◌, ◌++◌, ◌+◌, ◌<◌, ◌^◌, [], length, OnOk, IfOk};
+ghost use Rattle.std.specs.Prelude.{◌≡◌, true, false, ◌++◌, ◌+◌, ◌<◌, ◌^◌, [], length, OnOk, IfOk};
+ghost use Rattle.redn_kernel.specs.Costs.{test_cost, probe_cost};
 ghost use Rattle.redn_segment.specs.Building.{drafts_of};
 ghost use Rattle.redn_segment.specs.Drafts.{slot_from};
 ghost use Rattle.redn_segment.specs.Effects.{IsTarget, probes, tests_all, tests_low};
@@ -65,10 +66,11 @@ pub fn test48_template(
     no: u32,
 ) -> Result<(), Memory>
     requires few { length (drafts_of b.old.segments) < 2 ^ 31 }
-    ensures made { OnOk result (b.new ≡ record b.old { segments = b.old.segments ++ drafts.test48 (slot_from b.old.ring (length (drafts_of b.old.segments))) left right yes no }) }
+    ensures made { OnOk result
+        (b.new ≡ record b.old { segments = b.old.segments ++ drafts.test48 (slot_from b.old.ring (length (drafts_of b.old.segments))) left right yes no }) }
     ensures appended { OnOk result
         (Appends b.old b.new 4 6 1 (tests_low left right yes no (slot_from b.old.ring (length (drafts_of b.old.segments)) 6))) }
-    ensures cost { OnOk result (Costs b.old b.new 22 72) }
+    ensures cost { OnOk result (Costs b.old b.new 22 (test_cost false)) }
     ensures rights { OnOk result (Rights b.old b.new []) }
 {
     let segments = test48_segments(alloc, b, left, right, yes, no)?;
@@ -130,10 +132,11 @@ pub fn test64_template(
     no: u32,
 ) -> Result<(), Memory>
     requires few { length (drafts_of b.old.segments) < 2 ^ 31 }
-    ensures made { OnOk result (b.new ≡ record b.old { segments = b.old.segments ++ drafts.test64 (slot_from b.old.ring (length (drafts_of b.old.segments))) left right yes no }) }
+    ensures made { OnOk result
+        (b.new ≡ record b.old { segments = b.old.segments ++ drafts.test64 (slot_from b.old.ring (length (drafts_of b.old.segments))) left right yes no }) }
     ensures appended { OnOk result
         (Appends b.old b.new 5 10 1 (tests_all left right yes no (slot_from b.old.ring (length (drafts_of b.old.segments)) 10))) }
-    ensures cost { OnOk result (Costs b.old b.new 30 100) }
+    ensures cost { OnOk result (Costs b.old b.new 30 (test_cost true)) }
     ensures rights { OnOk result (Rights b.old b.new []) }
 {
     let segments = test64_segments(alloc, b, left, right, yes, no)?;
@@ -241,11 +244,12 @@ pub fn probe_template(
 ) -> Result<(), Memory>
     requires few { length (drafts_of b.old.segments) < 2 ^ 31 }
     requires target { IsTarget to }
-    ensures made { OnOk result (b.new ≡ record b.old { segments = b.old.segments ++ drafts.probe (slot_from b.old.ring (length (drafts_of b.old.segments))) to table offset key hit miss }) }
+    ensures made { OnOk result (b.new
+        ≡ record b.old { segments = b.old.segments ++ drafts.probe (slot_from b.old.ring (length (drafts_of b.old.segments))) to table offset key hit miss }) }
     ensures appended { OnOk result
         (Appends b.old b.new 6 15 1 (let slot = slot_from b.old.ring (length (drafts_of b.old.segments)) in
         probes to table offset key hit miss (slot 6) (slot 13) (slot 15))) }
-    ensures cost { OnOk result (Costs b.old b.new 39 132) }
+    ensures cost { OnOk result (Costs b.old b.new 39 probe_cost) }
     ensures rights { OnOk result (Rights b.old b.new []) }
 {
     let segments = probe_segments(alloc, b, to, table, offset, key, hit, miss)?;

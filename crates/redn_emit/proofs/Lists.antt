@@ -20,20 +20,6 @@ drafts_next (x ∷ xs) (suc i) d l =
     let front = length-append x (drafts_of (take i xs)) in
     omega (arith, rest, all, front)
 
--- the next one, and those behind it
-pub drop_at : {X : Type 0} (xs : List X) (i : ℕ) (d : X) → i < length xs → drop i xs ≡ get_or xs i d ∷ drop (i + 1) xs
-drop_at [] i d l = absurd (omega arith)
-drop_at (x ∷ xs) zero d l = refl
-drop_at {X} (x ∷ xs) (suc i) d l =
-    let e : suc (i + 1) ≡ suc i + 1 = omega arith in
-    drop_at xs i d (omega arith) ∙ ap (λ (n : ℕ). get_or xs i d ∷ drop n (x ∷ xs)) e
-
-pub drop_all : {X : Type 0} (xs : List X) (i : ℕ) → length xs ≤ i → drop i xs ≡ []
-drop_all [] zero l = refl
-drop_all [] (suc i) l = refl
-drop_all (x ∷ xs) zero l = absurd (omega arith)
-drop_all (x ∷ xs) (suc i) l = drop_all xs i (omega arith)
-
 pub take_next : {X : Type 0} (xs : List X) (i : ℕ) (d : X) → i < length xs → take (i + 1) xs ≡ take i xs ++ get_or xs i d ∷ []
 take_next [] i d l = absurd (omega arith)
 take_next (x ∷ xs) zero d l = refl

@@ -15,7 +15,7 @@ use Rattle.redn_emit.specs.Layout.{ChainPlan, ring_slots, first_limit, receive, 
 use Rattle.redn_emit.specs.Placed.{all_slots, plans, tables, regions, queues}
 
 abbrev chain : ChainInit
-chain = record { args = 1; vars = 0 ∷ []; body = [] }
+chain = record { serve = 1; args = 1; vars = 0 ∷ []; body = [] }
 
 abbrev program : Program
 program = record { tables = []; chains = chain ∷ [] }

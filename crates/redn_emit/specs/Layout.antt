@@ -10,6 +10,7 @@ use Rattle.redn_words.specs.declared.types.Request.{Request}
 use Rattle.redn_words.specs.declared.types.Opcode.{Opcode}
 use Rattle.redn_words.specs.declared.types.Opcode.TheVariants as op
 use Rattle.redn_words.specs.declared.limits.TheConstants.{RECEIVE_BASE}
+use Rattle.redn_words.specs.declared.rights.TheConstants.{ATOMIC, LOCAL_WRITE, REMOTE_READ, REMOTE_WRITE}
 use Rattle.redn_words.specs.Words.{spelled}
 use Rattle.redn_words.specs.Requests.{encoded}
 use Rattle.redn_kernel.specs.declared.types.Cell.{Cell}
@@ -36,6 +37,13 @@ pub record Plain : Type 0 where
 abbrev pub rings_from : ℕ → ℕ → List Block → List Plain
 rings_from first number [] = []
 rings_from first number (b ∷ rest) = record { number = number; segments = block_segments first number b } ∷ rings_from first (suc number) rest
+
+-- what requests may do with a chain's variables and control words, and with its slots
+abbrev pub word_rights : ℕ
+word_rights = LOCAL_WRITE + REMOTE_WRITE + ATOMIC
+
+abbrev pub code_rights : ℕ
+code_rights = REMOTE_WRITE + ATOMIC
 
 -- a chain with its rings, and where the words of the chain lie
 pub record ChainPlan : Type 0 where
@@ -116,13 +124,13 @@ module _ (c : ChainPlan) where
       record { key = key; domain = c.number; kind = its_kind; rights = rights; base = base; len = len }
 
   abbrev pub vars_row : Region
-  vars_row = row first_key kind.Vars 13 vars_base (8 * c.vars)
+  vars_row = row first_key kind.Vars word_rights vars_base (8 * c.vars)
 
   abbrev pub code_row : Region
-  code_row = row (first_key + 1) kind.Code 12 c.code_base (64 * code_slots c.rings)
+  code_row = row (first_key + 1) kind.Code code_rights c.code_base (64 * code_slots c.rings)
 
   abbrev pub control_row : Region
-  control_row = row (first_key + 2) kind.Control 13 c.control_base control_len
+  control_row = row (first_key + 2) kind.Control word_rights c.control_base control_len
 
   abbrev pub message_row : Region
   message_row = row (first_key + 3) kind.Message 0 message_base (8 * c.args)
@@ -142,7 +150,7 @@ pub record TablePlan : Type 0 where
   pub base : ℕ
 
 abbrev pub table_rights : Bool → ℕ
-table_rights writable = if writable then 6 else 2
+table_rights writable = if writable then REMOTE_READ + REMOTE_WRITE else REMOTE_READ
 
 abbrev pub table_row : ChainPlan → TablePlan → Region
 table_row c t = row c (first_key c + (4 + t.number)) (kind.Table t.number) (table_rights t.writable) t.base (length t.bytes)

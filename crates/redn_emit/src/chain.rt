@@ -16,7 +16,7 @@ use indexmap::IndexSet;
 use redn_graph::{Block, Graph};
 use redn_kernel::{Cell, ChainInit};
 use redn_segment::{SlotRef, Space};
-use redn_words::{Kind, Memory, Region};
+use redn_words::{ATOMIC, Kind, LOCAL_WRITE, Memory, REMOTE_READ, REMOTE_WRITE, Region};
 use std::alloc::Global;
 use std::marker::Model;
 
@@ -30,6 +30,14 @@ pub const DESCRIPTORS_AT: u64 = 104;
 
 /// The bytes of a slot.
 pub const SLOT: u64 = 64;
+
+/// What requests may do with a chain's variables and control words, with its slots, and with a table
+/// that is stored into.
+const WORD_RIGHTS: u8 = LOCAL_WRITE | REMOTE_WRITE | ATOMIC;
+
+const CODE_RIGHTS: u8 = REMOTE_WRITE | ATOMIC;
+
+const STORE_RIGHTS: u8 = REMOTE_READ | REMOTE_WRITE;
 
 /// A chain before its places are known.
 #[derive(Drop)]
@@ -336,14 +344,26 @@ impl<'a> ChainPlan<'a> {
         ensures { result ≡ layout.vars_row self.now }
     {
         let key = self.first_key();
-        self.row(key, Kind::Vars, 13, self.vars_base(), self.vars_len())
+        self.row(
+            key,
+            Kind::Vars,
+            WORD_RIGHTS,
+            self.vars_base(),
+            self.vars_len(),
+        )
     }
 
     pub fn code_row(&self) -> Region
         ensures { result ≡ layout.code_row self.now }
     {
         let key = self.first_key() + 1;
-        self.row(key, Kind::Code, 12, self.code_base, SLOT * self.slots())
+        self.row(
+            key,
+            Kind::Code,
+            CODE_RIGHTS,
+            self.code_base,
+            SLOT * self.slots(),
+        )
     }
 
     pub fn control_row(&self) -> Region
@@ -353,7 +373,7 @@ impl<'a> ChainPlan<'a> {
         self.row(
             key,
             Kind::Control,
-            13,
+            WORD_RIGHTS,
             self.control_base,
             self.control_len(),
         )
@@ -376,7 +396,11 @@ impl<'a> ChainPlan<'a> {
         ensures { result ≡ layout.table_row self.now t.now }
     {
         let key = self.first_key() + (4 + u32::from(t.number));
-        let rights = if t.writable { 6 } else { 2 };
+        let rights = if t.writable {
+            STORE_RIGHTS
+        } else {
+            REMOTE_READ
+        };
         let len = t.bytes.len() as u64;
         self.row(key, Kind::Table(t.number), rights, t.base, len)
     }

@@ -10,14 +10,16 @@ use Rattle.redn_kernel.specs.Steps.{Steps}
 use Rattle.redn_kernel.specs.CoreRun as core
 use Rattle.redn_kernel.specs.CoreRun.{Cells, CoreTurn, held, put, shown_put, shown_load, core_does}
 use Rattle.redn_kernel.specs.Becomes.{chain_at, cores_at}
-use Rattle.redn_kernel.specs.Composes.{Remains, Point, Pays, core_cost, addend_cost, test_cost, look_cost, start_worth}
+use Rattle.redn_kernel.specs.Costs.{test_cost, probe_cost, search_worth}
+use Rattle.redn_kernel.specs.Composes.{Remains, Point, Pays, core_cost}
 use Rattle.redn_kernel.proofs.Composing.{turn_of}
 use Rattle.redn_graph.specs.declared.types.Instr.{Instr}
 use Rattle.redn_graph.specs.declared.types.Instr.TheVariants.{Set, Move, Add, Load}
 use Rattle.redn_graph.specs.declared.types.End.TheVariants.{Probe}
 use Rattle.redn_graph.specs.Run as run
-use Rattle.redn_graph.specs.Run.{Way, On, Taking, To, Out, Effect, instr_does, end_does, instr_cost, end_cost, add_cost}
-use Rattle.redn_graph.specs.Code.{Meaning, Leads, Does, InstrRuns, EndRuns, is_out, turn_to, next_place, left_on, next_block, left_after, meaning_at}
+use Rattle.redn_graph.specs.Run.{Way, On, Taking, To, Out, Effect, instr_does, end_does, instr_cost, end_cost}
+use Rattle.redn_graph.specs.declared.build.Tail.TheVariants as tail
+use Rattle.redn_graph.specs.Code.{Meaning, Label, Leads, Does, InstrRuns, EndRuns, TailRuns, is_out, turn_to, next_place, left_on, next_block, left_after, meaning_at}
 use Rattle.redn_graph.specs.Words.{test_end}
 use Rattle.redn_graph.specs.Cores.{cell_move, IsOwnTarget, left_then, IgnoresSearches}
 use Rattle.redn_graph.proofs.Idling.{steps_idle}
@@ -91,18 +93,12 @@ module _ (p : Point) (m : Meaning) (ignores : IgnoresSearches m) where
   move_acts to (cell.Argument i) next left own affords pays = acts_run (Core-F.Move to (cell.Argument i)) next left affords pays (Move to (cell.Argument i)) refl (λ c words tables s. set_same (Core-F.Move to (cell.Argument i)) next left affords pays c words tables s to (held words s (cell.Argument i)) own)
   move_acts to (cell.Num n) next left own affords pays = acts_run (Core-F.Move to (cell.Num n)) next left affords pays (Set to n) refl (λ c words tables s. set_same (Core-F.Move to (cell.Num n)) next left affords pays c words tables s to n own)
 
-  same_addend : (by : Cell) → add_cost by ≡ addend_cost by
-  same_addend (cell.Var x) = refl
-  same_addend (cell.Hidden k) = refl
-  same_addend (cell.Argument i) = refl
-  same_addend (cell.Num n) = refl
-
   pub add_acts : (to by : Cell) (next : Remains) (left : ℕ) → IsOwnTarget to → core_cost (Core-F.Add to by) ≤ p.worth →
       ((c : ℕ) (words : List ℕ) (tables : List (List ℕ)) (s : Cells) (more : List Item) → Pays c words tables s more p.here next (core_does c words tables (cores_at s []) (Core-F.Add to by) []) (core_cost (Core-F.Add to by)) p.worth left) →
       InstrRuns (Add to by) here (left_then next m) p.worth left
   unfolding core_does core_cost instr_does instr_cost
   add_acts to by next left own affords pays =
-      acts_run (Core-F.Add to by) next left affords pays (Add to by) (same_addend by) (λ c words tables s. set_same (Core-F.Add to by) next left affords pays c words tables s to (wrapped (held words s to + held words s by)) own)
+      acts_run (Core-F.Add to by) next left affords pays (Add to by) refl (λ c words tables s. set_same (Core-F.Add to by) next left affords pays c words tables s to (wrapped (held words s to + held words s by)) own)
 
   pub load_acts : (to offset : Cell) (table : ℕ) (next : Remains) (left : ℕ) → IsOwnTarget to → core_cost (Core-F.Load to table offset) ≤ p.worth →
       ((c : ℕ) (words : List ℕ) (tables : List (List ℕ)) (s : Cells) (more : List Item) → Pays c words tables s more p.here next (core_does c words tables (cores_at s []) (Core-F.Load to table offset) []) (core_cost (Core-F.Load to table offset)) p.worth left) →
@@ -113,15 +109,17 @@ module _ (p : Point) (m : Meaning) (ignores : IgnoresSearches m) where
       (λ c words tables s. load_by (Core-F.Load to table offset) next left affords pays c words tables s to table (held words s offset) own (has_word tables table (held words s offset)))
 
   -- a test between two blocks
-  module _ (all : List Meaning) (yes_block no_block : ℕ) (if_met if_unmet : Remains)
-      (met : (h : ℕ → ℕ) → Leads 0 (left_then if_met m h) (meaning_at all yes_block h)) (unmet : (h : ℕ → ℕ) → Leads 0 (left_then if_unmet m h) (meaning_at all no_block h)) where
-    test_by : (cost : ℕ) (c : ℕ) (words : List ℕ) (tables : List (List ℕ)) (s : Cells) (b : Bool) → Pays c words tables s (m s.hidden) p.here (if b then if_met else if_unmet) (core.goes_on c words tables (cores_at s []) [] shows.Nothing) cost p.worth start_worth →
-        Does c words tables s (here s.hidden) (run.goes c words tables s (To (if b then yes_block else no_block))) (next_block all here here here) cost p.worth (left_after p.worth p.worth)
-    test_by cost c words tables s true pays = does_pays_idly c words tables s pays refl refl (met s.hidden) (omega arith)
-    test_by cost c words tables s false pays = does_pays_idly c words tables s pays refl refl (unmet s.hidden) (omega arith)
+  module _ (all : List Label) (yes_block no_block : ℕ) (if_met if_unmet : Remains)
+      (met : TailRuns all 0 search_worth (tail.To yes_block) (left_then if_met m)) (unmet : TailRuns all 0 search_worth (tail.To no_block) (left_then if_unmet m)) where
+    test_by : (cost : ℕ) (c : ℕ) (words : List ℕ) (tables : List (List ℕ)) (s : Cells) (b : Bool) →
+        Pays c words tables s (m s.hidden) p.here (if b then if_met else if_unmet) (core.goes_on c words tables (cores_at s []) [] shows.Nothing) cost p.worth search_worth →
+        Does c words tables s (here s.hidden) (run.goes c words tables s (To (if b then yes_block else no_block))) (next_block all here here here) cost p.worth (left_after all p.worth p.worth)
+    test_by cost c words tables s true pays = does_pays_idly c words tables s pays refl refl (met.1 s.hidden) met.0
+    test_by cost c words tables s false pays = does_pays_idly c words tables s pays refl refl (unmet.1 s.hidden) unmet.0
 
     pub choose_runs : (wide : Bool) (a b : Cell) → test_cost wide ≤ p.worth →
-        ((c : ℕ) (words : List ℕ) (tables : List (List ℕ)) (s : Cells) (more : List Item) → Pays c words tables s more p.here (if same wide (held words s a) (held words s b) then if_met else if_unmet) (core.goes_on c words tables (cores_at s []) [] shows.Nothing) (test_cost wide) p.worth start_worth) →
+        ((c : ℕ) (words : List ℕ) (tables : List (List ℕ)) (s : Cells) (more : List Item) → Pays c words tables s more p.here (if same wide (held words s a) (held words s b) then if_met else if_unmet)
+        (core.goes_on c words tables (cores_at s []) [] shows.Nothing) (test_cost wide) p.worth search_worth) →
         EndRuns all (test_end wide a b yes_block no_block) here p.worth
     unfolding end_does end_cost
     choose_runs true a b affords pays = record {
@@ -131,8 +129,8 @@ module _ (p : Point) (m : Meaning) (ignores : IgnoresSearches m) where
       leads = λ h. leads_none refl;
       affords = affords;
       affords_taking = affords;
-      first = λ c words tables s. test_by 100 c words tables s (same true (held words s a) (held words s b)) (pays c words tables s (m s.hidden));
-      second = λ c words tables s. test_by 100 c words tables s (same true (held words s a) (held words s b)) (pays c words tables s (m s.hidden));
+      first = λ c words tables s. test_by (test_cost true) c words tables s (same true (held words s a) (held words s b)) (pays c words tables s (m s.hidden));
+      second = λ c words tables s. test_by (test_cost true) c words tables s (same true (held words s a) (held words s b)) (pays c words tables s (m s.hidden));
     }
     choose_runs false a b affords pays = record {
       stands = here;
@@ -141,42 +139,58 @@ module _ (p : Point) (m : Meaning) (ignores : IgnoresSearches m) where
       leads = λ h. leads_none refl;
       affords = affords;
       affords_taking = affords;
-      first = λ c words tables s. test_by 72 c words tables s (same false (held words s a) (held words s b)) (pays c words tables s (m s.hidden));
-      second = λ c words tables s. test_by 72 c words tables s (same false (held words s a) (held words s b)) (pays c words tables s (m s.hidden));
+      first = λ c words tables s. test_by (test_cost false) c words tables s (same false (held words s a) (held words s b)) (pays c words tables s (m s.hidden));
+      second = λ c words tables s. test_by (test_cost false) c words tables s (same false (held words s a) (held words s b)) (pays c words tables s (m s.hidden));
     }
 
   -- a look, and the load of what it has found
-  module _ (all : List Meaning) (hit_block miss_block : ℕ) (found if_hit if_miss : Remains)
-      (hit : (h : ℕ → ℕ) → Leads 0 (left_then if_hit m h) (meaning_at all hit_block h)) (miss : (h : ℕ → ℕ) → Leads 0 (left_then if_miss m h) (meaning_at all miss_block h))
+  module _ (all : List Label) (hit_block miss_block : ℕ) (found if_hit if_miss : Remains)
+      (hit : TailRuns all 0 search_worth (tail.To hit_block) (left_then if_hit m)) (miss : TailRuns all 0 search_worth (tail.To miss_block) (left_then if_miss m))
       (to : Cell) (table : ℕ) (offset key : Cell) (own : IsOwnTarget to) where
     abbrev taking : Meaning
     taking = left_then found m
 
     look_by : (c : ℕ) (words : List ℕ) (tables : List (List ℕ)) (s : Cells) (o : ℕ) (there met : Bool) →
-        Pays c words tables s (m s.hidden) p.here (if met then found else if_miss) (if there then core.goes_on c words tables (cores_at s []) [] (shows.Look c table o (word_in tables table o)) else (record { tables = tables; state = record (cores_at s []) { ended = true }; event = shows.Fault c table o })) look_cost p.worth start_worth →
-        Does c words tables s (here s.hidden) (if there then run.effect c words tables s s (if met then Taking else To miss_block) (shows.Look c table o (word_in tables table o)) else run.effect c words tables s s Out (shows.Fault c table o)) (next_block all here taking here) look_cost p.worth (left_after p.worth start_worth)
+        Pays c words tables s (m s.hidden) p.here (if met then found else if_miss) (if there then core.goes_on c words tables (cores_at s []) [] (shows.Look c table o (word_in tables table o)) else (record {
+          tables =
+              tables;
+          state = record (cores_at s []) { ended = true };
+          event = shows.Fault c table o;
+        })) probe_cost p.worth search_worth →
+        Does c words tables s (here s.hidden)
+        (if there then run.effect c words tables s s (if met then Taking else To miss_block) (shows.Look c table o (word_in tables table o)) else run.effect c words tables s s Out (shows.Fault c table o))
+        (next_block all here taking here) probe_cost p.worth (left_after all p.worth search_worth)
     look_by c words tables s o false met pays = does_pays c words tables s pays refl (omega arith)
     look_by c words tables s o true true pays = does_pays c words tables s pays refl (omega arith)
-    look_by c words tables s o true false pays = does_pays_idly c words tables s pays refl refl (miss s.hidden) (omega arith)
+    look_by c words tables s o true false pays = does_pays_idly c words tables s pays refl refl (miss.1 s.hidden) miss.0
 
     take_by : (c : ℕ) (words : List ℕ) (tables : List (List ℕ)) (s : Cells) (o : ℕ) (there : Bool) →
-        Pays c words tables s (m s.hidden) found if_hit (if there then core.gets c words tables (cores_at s []) to (word_in tables table o) [] (shown_load c to table o (word_in tables table o)) else (record { tables = tables; state = record (cores_at s []) { ended = true }; event = shows.Fault c table o })) 0 start_worth start_worth →
-        Does c words tables s (taking s.hidden) (if there then run.effect c words tables s (put s to (word_in tables table o)) (To hit_block) (shown_load c to table o (word_in tables table o)) else run.effect c words tables s s Out (shows.Fault c table o)) (next_block all here taking taking) 0 start_worth (left_after p.worth start_worth)
+        Pays c words tables s (m s.hidden) found if_hit (if there then core.gets c words tables (cores_at s []) to (word_in tables table o) [] (shown_load c to table o (word_in tables table o)) else (record {
+          tables =
+              tables;
+          state = record (cores_at s []) { ended = true };
+          event = shows.Fault c table o;
+        })) 0 search_worth search_worth →
+        Does c words tables s (taking s.hidden)
+        (if there then run.effect c words tables s (put s to (word_in tables table o)) (To hit_block) (shown_load c to table o (word_in tables table o)) else run.effect c words tables s s Out (shows.Fault c table o))
+        (next_block all here taking taking) 0 search_worth (left_after all p.worth search_worth)
     take_by c words tables s o false pays = does_pays c words tables s pays refl (omega arith)
     take_by c words tables s o true pays =
         let v : ℕ = word_in tables table o in
         let now : ℕ → ℕ = (put s to v).hidden in
-        does_pays_idly c words tables s pays refl refl (subst (λ (rest : List Item). Leads 0 (if_hit now ++ rest) (meaning_at all hit_block now)) (put_ignores m ignores s to v own) (hit now)) (omega arith)
+        does_pays_idly c words tables s pays refl refl (subst (λ (rest : List Item). Leads 0 (if_hit now ++ rest) (meaning_at all hit_block now)) (put_ignores m ignores s to v own) (hit.1 now)) hit.0
 
-    pub look_runs : look_cost ≤ p.worth →
-        ((c : ℕ) (words : List ℕ) (tables : List (List ℕ)) (s : Cells) (more : List Item) → Pays c words tables s more p.here (if same_low (word_in tables table (held words s offset)) (held words s key) then found else if_miss) (core.looks c words tables (cores_at s []) table (held words s offset) (λ v. [])) look_cost p.worth start_worth) →
-        ((c : ℕ) (words : List ℕ) (tables : List (List ℕ)) (s : Cells) (more : List Item) → Pays c words tables s more found if_hit (core.loads c words tables (cores_at s []) to table (wrapped (held words s offset + 8)) []) 0 start_worth start_worth) →
+    pub look_runs : probe_cost ≤ p.worth →
+        ((c : ℕ) (words : List ℕ) (tables : List (List ℕ)) (s : Cells) (more : List Item) → Pays c words tables s more p.here (if same_low (word_in tables table (held words s offset)) (held words s key) then found else if_miss)
+        (core.looks c words tables (cores_at s []) table (held words s offset) (λ v. [])) probe_cost p.worth search_worth) →
+        ((c : ℕ) (words : List ℕ) (tables : List (List ℕ)) (s : Cells) (more : List Item) →
+        Pays c words tables s more found if_hit (core.loads c words tables (cores_at s []) to table (wrapped (held words s offset + 8)) []) 0 search_worth search_worth) →
         EndRuns all (Probe to table offset key hit_block miss_block) here p.worth
     unfolding end_does end_cost
     look_runs affords looks takes = record {
       stands = here;
       taking = taking;
-      taking_worth = start_worth;
+      taking_worth = search_worth;
       leads = λ h. leads_none refl;
       affords = affords;
       affords_taking = omega arith;

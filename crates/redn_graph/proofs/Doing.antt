@@ -13,10 +13,11 @@ use Rattle.redn_kernel.specs.Source as source
 use Rattle.redn_kernel.specs.Source.{TakeArgument, ChainState, Turn, Item, Do, first_does, item_does, statement_does, silent, value_of, wrapped, same, do_all, has_word, word_in, with_word_in}
 use Rattle.redn_graph.specs.declared.types.Instr.TheVariants.{Set, Move, Add, Load, Store}
 use Rattle.redn_kernel.specs.CoreRun.{Cells, put}
-use Rattle.redn_graph.specs.Run.{Way, On, Taking, To, Out, Effect, effect, holds, sets, loads, stores, instr_does, instr_cost, add_cost}
+use Rattle.redn_graph.specs.Run.{Way, On, Taking, To, Out, Effect, effect, holds, sets, loads, stores, instr_does, instr_cost}
+use Rattle.redn_kernel.specs.Costs.{step_worth, add_cost, load_cost, statement_worth, jump_worth}
 use Rattle.redn_kernel.specs.Steps.{Steps, silently, unchanged}
 use Rattle.redn_kernel.specs.Becomes.{chain_at}
-use Rattle.redn_graph.specs.Code.{Meaning, IdleStep, Leads, InstrRuns, Does, is_out, turn_to, next_place, left_on, block_worth, jump_worth}
+use Rattle.redn_graph.specs.Code.{Meaning, IdleStep, Leads, InstrRuns, Does, is_out, turn_to, next_place, left_on}
 use Rattle.redn_kernel.specs.CoreRun.{cell_of}
 use Rattle.redn_graph.proofs.Idling.{idle_steps, steps_idle}
 
@@ -31,11 +32,13 @@ leads_at_least le l = record { count = l.count; enough = omega (arith, l.enough,
 
 module _ (c : ℕ) (words : List ℕ) (tables : List (List ℕ)) (s : Cells) where
   -- one step shows it
-  pub does_shown : {cost worth : ℕ} {items : List Item} {e : Effect} {next : Way → Meaning} {left : Way → ℕ} → turn_to words next e ≡ first_does c tables (chain_at words s false items) items → cost + left e.way ≤ worth + 160 → Does c words tables s items e next cost worth left
+  pub does_shown : {cost worth : ℕ} {items : List Item} {e : Effect} {next : Way → Meaning} {left : Way → ℕ} → turn_to words next e ≡ first_does c tables (chain_at words s false items) items → cost + left e.way ≤ worth + step_worth →
+      Does c words tables s items e next cost worth left
   does_shown same paid = record { count = 1; steps = (refl, inr (ap (λ (u : Turn). u.event) same, ap silently same)); paid = omega (arith, paid) }
 
   -- one step shows it, and idle ones follow
-  pub does_shown_idly : {cost worth : ℕ} {items after : List Item} {e : Effect} {next : Way → Meaning} {left : Way → ℕ} → is_out e.way ≡ false → turn_to words (λ way h. after) e ≡ first_does c tables (chain_at words s false items) items → Leads 0 after (next e.way e.cells.hidden) → cost + left e.way ≤ worth + 160 → Does c words tables s items e next cost worth left
+  pub does_shown_idly : {cost worth : ℕ} {items after : List Item} {e : Effect} {next : Way → Meaning} {left : Way → ℕ} → is_out e.way ≡ false → turn_to words (λ way h. after) e ≡ first_does c tables (chain_at words s false items) items →
+      Leads 0 after (next e.way e.cells.hidden) → cost + left e.way ≤ worth + step_worth → Does c words tables s items e next cost worth left
   does_shown_idly {items = items} {after = after} {e = e} {next = next} going same l paid =
       let turn : Bool → List Item → Turn = λ out last. record { tables = e.tables; chain = chain_at words e.cells out last; event = e.event } in
       let one : Steps c tables (chain_at words s false items) 1 (turn (is_out e.way) after) = (refl, inr (ap (λ (u : Turn). u.event) same, ap silently same)) in
@@ -47,14 +50,17 @@ module _ (c : ℕ) (words : List ℕ) (tables : List (List ℕ)) (s : Cells) whe
       }
 
   -- idle steps alone
-  pub does_idly : {least cost worth : ℕ} {items : List Item} {way : Way} {next : Way → Meaning} {left : Way → ℕ} → is_out way ≡ false → Leads least items (next way s.hidden) → cost + left way ≤ worth + 160 * least → Does c words tables s items (record { tables = tables; cells = s; way = way; event = shows.Nothing }) next cost worth left
+  pub does_idly : {least cost worth : ℕ} {items : List Item} {way : Way} {next : Way → Meaning} {left : Way → ℕ} → is_out way ≡ false → Leads least items (next way s.hidden) → cost + left way ≤ worth + step_worth * least →
+      Does c words tables s items (record { tables = tables; cells = s; way = way; event = shows.Nothing }) next cost worth left
   does_idly {items = items} {way = way} {next = next} going l paid =
       let turn : Bool → Turn = λ out. unchanged tables (chain_at words s out (next way s.hidden)) in
       let r = idle_steps c words tables s l.count items (next way s.hidden) l.idles 0 (turn false) refl in
       record { count = r.count; steps = subst (λ (out : Bool). Steps c tables (chain_at words s false items) r.count (turn out)) (sym going) r.steps; paid = omega (arith, paid, r.enough, l.enough) }
 
   -- a silent step, and idle ones
-  pub does_silently : {least cost worth : ℕ} {items after : List Item} {way : Way} {next : Way → Meaning} {left : Way → ℕ} → is_out way ≡ false → first_does c tables (chain_at words s false items) items ≡ unchanged tables (chain_at words s false after) → Leads least after (next way s.hidden) → cost + left way ≤ worth + 160 → Does c words tables s items (record { tables = tables; cells = s; way = way; event = shows.Nothing }) next cost worth left
+  pub does_silently : {least cost worth : ℕ} {items after : List Item} {way : Way} {next : Way → Meaning} {left : Way → ℕ} → is_out way ≡ false →
+      first_does c tables (chain_at words s false items) items ≡ unchanged tables (chain_at words s false after) → Leads least after (next way s.hidden) → cost + left way
+      ≤ worth + step_worth → Does c words tables s items (record { tables = tables; cells = s; way = way; event = shows.Nothing }) next cost worth left
   does_silently {after = after} going first l paid =
       does_shown_idly going (ap (λ (out : Bool). unchanged tables (chain_at words s out after)) going ∙ sym first) (leads_at_least (omega arith) l) paid
 
@@ -98,7 +104,7 @@ left_most left (To l) = omega arith
 left_most left Out = omega arith
 
 module _ (m : Meaning) where
-  pub set_runs : (x v : ℕ) → InstrRuns (Set (cell.Var x) v) (doing (k.Move x (Num v)) m) m block_worth jump_worth
+  pub set_runs : (x v : ℕ) → InstrRuns (Set (cell.Var x) v) (doing (k.Move x (Num v)) m) m statement_worth jump_worth
   unfolding instr_does instr_cost statement_does
   set_runs x v = record {
     stands = doing (k.Move x (Num v)) m;
@@ -107,7 +113,7 @@ module _ (m : Meaning) where
     does = λ c words tables s. does_shown c words tables s (sym (front_does c words tables s _ _ (m s.hidden) (k.outs-Move x (Num v)))) (omega arith);
   }
 
-  pub move_runs : (x : ℕ) (a : Word) → InstrRuns (Move (cell.Var x) (cell_of a)) (doing (k.Move x a) m) m block_worth jump_worth
+  pub move_runs : (x : ℕ) (a : Word) → InstrRuns (Move (cell.Var x) (cell_of a)) (doing (k.Move x a) m) m statement_worth jump_worth
   unfolding instr_does instr_cost statement_does set_step
   move_runs x a = record {
     stands = doing (k.Move x a) m;
@@ -119,13 +125,13 @@ module _ (m : Meaning) where
         (omega arith);
   }
 
-  add_cost_most : (a : Cell) → add_cost a ≤ 32
+  add_cost_most : (a : Cell) → add_cost a ≤ load_cost
   add_cost_most (cell.Num n) = omega arith
   add_cost_most (cell.Var x) = omega arith
   add_cost_most (cell.Hidden j) = omega arith
   add_cost_most (cell.Argument i) = omega arith
 
-  pub add_runs : (x : ℕ) (a : Word) → InstrRuns (Add (cell.Var x) (cell_of a)) (doing (k.Add x a) m) m block_worth jump_worth
+  pub add_runs : (x : ℕ) (a : Word) → InstrRuns (Add (cell.Var x) (cell_of a)) (doing (k.Add x a) m) m statement_worth jump_worth
   unfolding instr_does instr_cost statement_does set_step
   add_runs x a = record {
     stands = doing (k.Add x a) m;
@@ -137,7 +143,7 @@ module _ (m : Meaning) where
         (omega (arith, add_cost_most (cell_of a)));
   }
 
-  pub load_runs : (x table : ℕ) (a : Word) → InstrRuns (Load (cell.Var x) table (cell_of a)) (doing (k.Load x table a) m) m block_worth jump_worth
+  pub load_runs : (x table : ℕ) (a : Word) → InstrRuns (Load (cell.Var x) table (cell_of a)) (doing (k.Load x table a) m) m statement_worth jump_worth
   unfolding instr_does instr_cost statement_does
   load_runs x table a = record {
     stands = doing (k.Load x table a) m;
@@ -152,7 +158,7 @@ module _ (m : Meaning) where
         (omega (arith, left_most jump_worth (loads c words tables s (cell.Var x) table (holds c words tables s (cell_of a)) On).way));
   }
 
-  pub store_runs : (table : ℕ) (a b : Word) → InstrRuns (Store table (cell_of a) (cell_of b)) (doing (k.Store table a b) m) m block_worth jump_worth
+  pub store_runs : (table : ℕ) (a b : Word) → InstrRuns (Store table (cell_of a) (cell_of b)) (doing (k.Store table a b) m) m statement_worth jump_worth
   unfolding instr_does instr_cost statement_does
   store_runs table a b = record {
     stands = doing (k.Store table a b) m;
@@ -170,7 +176,7 @@ module _ (m : Meaning) where
         (omega (arith, left_most jump_worth (stores c words tables s table (hold a) (hold b)).way));
   }
 
-  pub take_runs : (i : ℕ) → InstrRuns (Move (cell.Var i) (cell.Argument i)) (λ h. TakeArgument i ∷ m h) m block_worth jump_worth
+  pub take_runs : (i : ℕ) → InstrRuns (Move (cell.Var i) (cell.Argument i)) (λ h. TakeArgument i ∷ m h) m statement_worth jump_worth
   unfolding instr_does instr_cost item_does
   take_runs i = record {
     stands = λ h. TakeArgument i ∷ m h;

@@ -1,14 +1,13 @@
 -- Blocks that follow a chain are equal to it up to silence.
-use Rattle.std.proofs.Common.{◌≡◌, ℕ, zero, suc, ◌<◌, ◌≤◌, ◌⊎◌, inl, inr, Bool, true, false, if◌then◌else◌, List, [], ◌∷◌, ◌++◌, length, replicate, Option, Some, None, refl, sym, ap, ◌∙◌, subst, arith}
-use Rattle.std.specs.Prelude.{slice_get, is_some, not, ◌&&◌}
+use Rattle.std.proofs.Common.{◌≡◌, ℕ, zero, suc, ◌<◌, ◌≤◌, ◌⊎◌, inl, inr, Bool, true, false, if◌then◌else◌, List, [], ◌∷◌, length, Option, Some, None, refl, sym, ap, ◌∙◌, subst, arith}
+use Rattle.std.specs.Prelude.{slice_get}
 use Rattle.std.proofs.lemmas.Option.{slice_get_cases, get_or_from_slice_get}
-use Rattle.redn_words.specs.declared.types.Obs.{Obs}
 use Rattle.redn_words.specs.declared.types.Obs.TheVariants as shows
 use Rattle.redn_kernel.specs.declared.types.TableInit.{TableInit}
 use Rattle.redn_kernel.specs.declared.types.ChainInit.{ChainInit}
 use Rattle.redn_kernel.specs.declared.types.Cell.TheVariants as cell
 use Rattle.redn_kernel.specs.declared.types.Cell.{Cell}
-use Rattle.redn_kernel.specs.Source.{ChainState, Turn, first_does, chain_runs, has_word}
+use Rattle.redn_kernel.specs.Source.{ChainState, Turn, chain_runs, has_word}
 use Rattle.redn_kernel.specs.Steps.{Steps, unchanged}
 use Rattle.redn_kernel.specs.CoreRun.{Cells}
 use Rattle.redn_graph.specs.declared.types.Instr.{Instr}
@@ -17,19 +16,21 @@ use Rattle.redn_graph.specs.declared.types.End.{End}
 use Rattle.redn_graph.specs.declared.types.End.TheVariants.{Jump, Test48, Test64, Probe, Reply}
 use Rattle.redn_graph.specs.declared.types.Block.{Block}
 use Rattle.redn_graph.specs.declared.types.Graph.{Graph}
-use Rattle.redn_graph.specs.Run.{GraphState, GraphTurn, Effect, Way, On, Taking, To, Out, graph_step, graph_start, graph_turn, block_turn, block_cost, instr_or_end, instr_or_end_cost, state_on, step_cost, instr_does, end_does, instr_cost, end_cost, add_cost, stays}
+use Rattle.redn_kernel.specs.Costs.{add_cost}
+use Rattle.redn_graph.specs.Run.{Mail, GraphState, in_hand, GraphTurn, Effect, Way, On, Taking, To, Out, graph_step, graph_start, graph_turn, block_turn, block_cost, instr_or_end, instr_or_end_cost, state_on, step_cost, instr_does}
+use Rattle.redn_graph.specs.Run.{end_does, instr_cost, end_cost, stays}
 use Rattle.redn_graph.specs.Follows.{Follows, IsMatched, turn_by, chain_start}
 use Rattle.redn_graph.specs.Along.{state_along}
 use Rattle.redn_graph.specs.Fits.{Things, FitsEnd, FitsBlock, FitsGraph, things_of}
 use Rattle.redn_kernel.specs.Feeds.{Feed, seen_then, chain_after, chain_seen}
-use Rattle.redn_kernel.proofs.Feeds.{bool_or, zero_or, ended_stops, fed, stopped, GoesBehind, ShowsNoMore, behind}
+use Rattle.redn_kernel.proofs.Feeds.{bool_or, zero_or, ended_stops, fed, stopped, GoesBehind, behind}
 use Rattle.redn_graph.specs.Silence.{graph_seen, EqualUpToSilence}
 use Rattle.redn_graph.proofs.Places.{goes_on_or_out}
 use Rattle.redn_kernel.proofs.Quiet.{is_nothing, not_nothing, quiet_run, later_vars, first_content, remains}
 
-module _ (tables_of : List TableInit) (chain : ChainInit) (g : Graph) (f : Follows chain g) (fits : FitsGraph tables_of chain g) (c : ℕ) (words : List ℕ) where
+module _ (tables_of : List TableInit) (chain : ChainInit) (g : Graph) (f : Follows chain g) (fits : FitsGraph tables_of chain g) (c : ℕ) (mail : Mail) where
   abbrev here : GraphState → ChainState
-  here = f.here words
+  here = f.here mail
 
   abbrev count : ℕ
   count = length g.blocks
@@ -47,7 +48,8 @@ module _ (tables_of : List TableInit) (chain : ChainInit) (g : Graph) (f : Follo
   looked_block n x true s miss h k = h
   looked_block n x false s miss h k = k
 
-  end_block : (n : Things) (tables : List (List ℕ)) (x : GraphState) (taking : Bool) (end : End) → x.block < n.blocks → FitsEnd n end → (let e : Effect = end_does c words tables x.cells taking end in (state_on x e.cells e.way).block < n.blocks)
+  end_block : (n : Things) (tables : List (List ℕ)) (x : GraphState) (taking : Bool) (end : End) → x.block < n.blocks → FitsEnd n end →
+      (let e : Effect = end_does c (in_hand mail x) tables x.cells taking end in (state_on x e.cells e.way).block < n.blocks)
   unfolding end_does
   end_block n tables x taking (Jump to) at h = h
   end_block n tables x taking (Test48 left right met unmet) at h = one_of n _ met unmet h.2 h.3
@@ -60,8 +62,9 @@ module _ (tables_of : List TableInit) (chain : ChainInit) (g : Graph) (f : Follo
   on_or_out x e (inl on) at = subst (λ (w : Way). (state_on x e.cells w).block < count) (sym on) at
   on_or_out x e (inr out) at = subst (λ (w : Way). (state_on x e.cells w).block < count) (sym out) at
 
-  place_block : (tables : List (List ℕ)) (x : GraphState) (o : Option Instr) (end : End) → x.block < count → FitsEnd (things_of tables_of chain g) end → (let e : Effect = instr_or_end c words tables x o end in (state_on x e.cells e.way).block < count)
-  place_block tables x (Some i) end at h = on_or_out x (instr_does c words tables x.cells i) (goes_on_or_out c words tables x.cells i) at
+  place_block : (tables : List (List ℕ)) (x : GraphState) (o : Option Instr) (end : End) → x.block < count → FitsEnd (things_of tables_of chain g) end →
+      (let e : Effect = instr_or_end c mail tables x o end in (state_on x e.cells e.way).block < count)
+  place_block tables x (Some i) end at h = on_or_out x (instr_does c (in_hand mail x) tables x.cells i) (goes_on_or_out c (in_hand mail x) tables x.cells i) at
   place_block tables x None end at h = end_block (things_of tables_of chain g) tables x x.taking end at h
 
   -- the block of a state
@@ -77,15 +80,15 @@ module _ (tables_of : List TableInit) (chain : ChainInit) (g : Graph) (f : Follo
         | inr past ↦ absurd (omega (arith, past.0, at))
       ]
 
-  step_is : (tables : List (List ℕ)) (x : GraphState) (b : Block) → x.ended ≡ false → slice_get g.blocks x.block ≡ Some b → graph_step c words tables x g ≡ graph_turn x (instr_or_end c words tables x (slice_get b.instrs x.place) b.end)
+  step_is : (tables : List (List ℕ)) (x : GraphState) (b : Block) → x.ended ≡ false → slice_get g.blocks x.block ≡ Some b → graph_step c mail tables x g ≡ graph_turn x (instr_or_end c mail tables x (slice_get b.instrs x.place) b.end)
   unfolding graph_step
-  step_is tables x b going there = ap (λ (e : Bool). if e then stays tables x else block_turn c words tables x (slice_get g.blocks x.block)) going ∙ ap (block_turn c words tables x) there
+  step_is tables x b going there = ap (λ (e : Bool). if e then stays tables x else block_turn c mail tables x (slice_get g.blocks x.block)) going ∙ ap (block_turn c mail tables x) there
 
   cost_is : (x : GraphState) (b : Block) → x.ended ≡ false → slice_get g.blocks x.block ≡ Some b → step_cost g x ≡ instr_or_end_cost x (slice_get b.instrs x.place) b.end
   unfolding step_cost
   cost_is x b going there = ap (λ (e : Bool). if e then 0 else block_cost x (slice_get g.blocks x.block)) going ∙ ap (block_cost x) there
 
-  next_within : (tables : List (List ℕ)) (x : GraphState) → x.ended ≡ false → x.block < count → (graph_step c words tables x g).state.block < count
+  next_within : (tables : List (List ℕ)) (x : GraphState) → x.ended ≡ false → x.block < count → (graph_step c mail tables x g).state.block < count
   next_within tables x going at =
       let s = stands x at in
       let o : Option Instr = slice_get s.block.instrs x.place in
@@ -110,30 +113,30 @@ module _ (tables_of : List TableInit) (chain : ChainInit) (g : Graph) (f : Follo
   either_loud true one other h k = h
   either_loud false one other h k = k
 
-  load_loud : (tables : List (List ℕ)) (s : Cells) (to : Cell) (table offset hit : ℕ) (offset_cell key : Cell) (miss : ℕ) → is_nothing (end_does c words tables s true (Probe to table offset_cell key hit miss)).event ≡ false
+  load_loud : (w : List ℕ) (tables : List (List ℕ)) (s : Cells) (to : Cell) (table offset hit : ℕ) (offset_cell key : Cell) (miss : ℕ) → is_nothing (end_does c w tables s true (Probe to table offset_cell key hit miss)).event ≡ false
   unfolding end_does
-  load_loud tables s (cell.Var x) table offset hit offset_cell key miss = either_loud (has_word tables table _) _ _ refl refl
-  load_loud tables s (cell.Hidden x) table offset hit offset_cell key miss = either_loud (has_word tables table _) _ _ refl refl
-  load_loud tables s (cell.Argument x) table offset hit offset_cell key miss = either_loud (has_word tables table _) _ _ refl refl
-  load_loud tables s (cell.Num x) table offset hit offset_cell key miss = either_loud (has_word tables table _) _ _ refl refl
+  load_loud w tables s (cell.Var x) table offset hit offset_cell key miss = either_loud (has_word tables table _) _ _ refl refl
+  load_loud w tables s (cell.Hidden x) table offset hit offset_cell key miss = either_loud (has_word tables table _) _ _ refl refl
+  load_loud w tables s (cell.Argument x) table offset hit offset_cell key miss = either_loud (has_word tables table _) _ _ refl refl
+  load_loud w tables s (cell.Num x) table offset hit offset_cell key miss = either_loud (has_word tables table _) _ _ refl refl
 
   abbrev PaysOrShows : List (List ℕ) → GraphState → Option Instr → End → Type 0
-  PaysOrShows tables x o end = (1 ≤ instr_or_end_cost x o end) ⊎ (is_nothing (instr_or_end c words tables x o end).event ≡ false)
+  PaysOrShows tables x o end = (1 ≤ instr_or_end_cost x o end) ⊎ (is_nothing (instr_or_end c mail tables x o end).event ≡ false)
 
-  end_pays : (tables : List (List ℕ)) (x : GraphState) (taking : Bool) (end : End) → (1 ≤ end_cost taking end) ⊎ (is_nothing (end_does c words tables x.cells taking end).event ≡ false)
+  end_pays : (tables : List (List ℕ)) (x : GraphState) (taking : Bool) (end : End) → (1 ≤ end_cost taking end) ⊎ (is_nothing (end_does c (in_hand mail x) tables x.cells taking end).event ≡ false)
   unfolding end_cost
   end_pays tables x taking (Jump to) = inl (omega arith)
   end_pays tables x taking (Test48 left right met unmet) = inl (omega arith)
   end_pays tables x taking (Test64 left right met unmet) = inl (omega arith)
   end_pays tables x false (Probe to table offset key hit miss) = inl (omega arith)
-  end_pays tables x true (Probe to table offset key hit miss) = inr (load_loud tables x.cells to table 0 hit offset key miss)
+  end_pays tables x true (Probe to table offset key hit miss) = inr (load_loud (in_hand mail x) tables x.cells to table 0 hit offset key miss)
   end_pays tables x taking (Reply cells) = inl (omega arith)
 
   place_pays : (tables : List (List ℕ)) (x : GraphState) (o : Option Instr) (end : End) → PaysOrShows tables x o end
   place_pays tables x (Some i) end = inl (instr_pays i)
   place_pays tables x None end = end_pays tables x x.taking end
 
-  pays_or_shows : (tables : List (List ℕ)) (x : GraphState) → x.ended ≡ false → x.block < count → (1 ≤ step_cost g x) ⊎ (is_nothing (graph_step c words tables x g).event ≡ false)
+  pays_or_shows : (tables : List (List ℕ)) (x : GraphState) → x.ended ≡ false → x.block < count → (1 ≤ step_cost g x) ⊎ (is_nothing (graph_step c mail tables x g).event ≡ false)
   pays_or_shows tables x going at =
       let s = stands x at in
       let o : Option Instr = slice_get s.block.instrs x.place in
@@ -145,24 +148,25 @@ module _ (tables_of : List TableInit) (chain : ChainInit) (g : Graph) (f : Follo
   -- a feed of the blocks that shows what one of the chain does
   record Answer (x : GraphState) (feed : Feed) : Type 0 where
     pub other : Feed
-    pub seen : graph_seen c words g other x ≡ chain_seen c feed (here x)
-    pub vars : (state_along c words g other x).cells.vars ≡ (chain_after c feed (here x)).vars
+    pub seen : graph_seen c mail g other x ≡ chain_seen c feed (here x)
+    pub vars : (state_along c mail g other x).cells.vars ≡ (chain_after c feed (here x)).vars
 
   answer_none : (x : GraphState) (feed : Feed) → chain_seen c feed (here x) ≡ [] → (chain_after c feed (here x)).vars ≡ (here x).vars → Answer x feed
-  answer_none x feed seen vars = record { other = []; seen = sym seen; vars = sym (f.vars words x) ∙ sym vars }
+  answer_none x feed seen vars = record { other = []; seen = sym seen; vars = sym (f.vars mail x) ∙ sym vars }
 
-  answer_more : (x : GraphState) (feed : Feed) (n : ℕ) → (b : GoesBehind c n feed (here x) (turn_by here (graph_step c words (first_content c feed (here x)) x g))) → Answer (graph_step c words (first_content c feed (here x)) x g).state b.feed_left → Answer x feed
+  answer_more : (x : GraphState) (feed : Feed) (n : ℕ) → (b : GoesBehind c n feed (here x) (turn_by here (graph_step c mail (first_content c feed (here x)) x g))) →
+      Answer (graph_step c mail (first_content c feed (here x)) x g).state b.feed_left → Answer x feed
   answer_more x feed n b a =
       let tables = first_content c feed (here x) in
       record {
         other = tables ∷ a.other;
-        seen = ap (seen_then tables (graph_step c words tables x g).event) a.seen ∙ sym b.seen;
+        seen = ap (seen_then tables (graph_step c mail tables x g).event) a.seen ∙ sym b.seen;
         vars = a.vars ∙ sym (later_vars c _ _ b.later);
       }
 
   answer_ended : (x : GraphState) (feed : Feed) → x.ended ≡ true → Answer x feed
   answer_ended x feed over =
-      let not_running : chain_runs (here x) ≡ false = ended_stops (here x) (f.ended words x ∙ over) in
+      let not_running : chain_runs (here x) ≡ false = ended_stops (here x) (f.ended mail x ∙ over) in
       let s = stopped c feed (here x) not_running in
       answer_none x feed s.0 (ap (λ (t : ChainState). t.vars) s.1)
 
@@ -172,18 +176,18 @@ module _ (tables_of : List TableInit) (chain : ChainInit) (g : Graph) (f : Follo
   ended_or : (x : GraphState) → (x.ended ≡ true) ⊎ (x.ended ≡ false)
   ended_or x = bool_or x.ended
 
-  no_steps : (x : GraphState) (feed : Feed) (m : IsMatched c words g here f.worth (first_content c feed (here x)) x) → m.count ≡ 0 → (graph_step c words (first_content c feed (here x)) x g).event ≡ shows.Nothing
+  no_steps : (x : GraphState) (feed : Feed) (m : IsMatched c mail g here f.worth (first_content c feed (here x)) x) → m.count ≡ 0 → (graph_step c mail (first_content c feed (here x)) x g).event ≡ shows.Nothing
   no_steps x feed m none =
       let tables = first_content c feed (here x) in
-      ap (λ (turn : Turn). turn.event) (subst (λ (n : ℕ). Steps c tables (here x) n (turn_by here (graph_step c words tables x g))) none m.steps)
+      ap (λ (turn : Turn). turn.event) (subst (λ (n : ℕ). Steps c tables (here x) n (turn_by here (graph_step c mail tables x g))) none m.steps)
 
   round : (k w : ℕ) → Shorter k → ((x : GraphState) (feed : Feed) → x.block < count → length feed ≤ k → f.worth x < w → Answer x feed) → (x : GraphState) (feed : Feed) → x.block < count → 1 ≤ length feed → length feed ≤ k → f.worth x ≤ w → x.ended ≡ false → Answer x feed
   round k w shorter poorer x feed at some few worth going =
       let tables = first_content c feed (here x) in
-      let m = f.matched c words tables x in
-      let next = (graph_step c words tables x g).state in
+      let m = f.matched c mail tables x in
+      let next = (graph_step c mail tables x g).state in
       let there = next_within tables x going at in
-      elim (behind c m.count feed (here x) (turn_by here (graph_step c words tables x g)) m.steps) [
+      elim (behind c m.count feed (here x) (turn_by here (graph_step c mail tables x g)) m.steps) [
         | inr no_more ↦ answer_none x feed no_more.seen no_more.vars
         | inl b ↦
             elim (zero_or m.count) [
@@ -213,38 +217,38 @@ module _ (tables_of : List TableInit) (chain : ChainInit) (g : Graph) (f : Follo
   first = graph_start g chain.vars
 
   pub blocks_match : (feed : Feed) → (other : Feed)
-      × (graph_seen c words g other first ≡ chain_seen c feed (chain_start chain words))
-      × ((state_along c words g other first).cells.vars ≡ (chain_after c feed (chain_start chain words)).vars)
+      × (graph_seen c mail g other first ≡ chain_seen c feed (chain_start chain (in_hand mail (graph_start g chain.vars))))
+      × ((state_along c mail g other first).cells.vars ≡ (chain_after c feed (chain_start chain (in_hand mail (graph_start g chain.vars)))).vars)
   blocks_match feed =
-      let start = f.starts c words [] in
-      let quiet = quiet_run c start.0 [] (chain_start chain words) (unchanged [] (here first)) start.1 refl in
-      let r = remains c start.0 feed (chain_start chain words) (here first) quiet in
+      let start = f.starts c mail [] in
+      let quiet = quiet_run c start.0 [] (chain_start chain (in_hand mail (graph_start g chain.vars))) (unchanged [] (here first)) start.1 refl in
+      let r = remains c start.0 feed (chain_start chain (in_hand mail (graph_start g chain.vars))) (here first) quiet in
       let a = answer (suc (length r.feed_left)) first r.feed_left fits.entry (omega arith) in
       (a.other, a.seen ∙ sym r.seen, a.vars ∙ sym (later_vars c _ _ r.later))
 
   -- a feed of the chain for one of the blocks
   record Follower (x : GraphState) (feed : Feed) : Type 0 where
     pub other : Feed
-    pub seen : chain_seen c other (here x) ≡ graph_seen c words g feed x
-    pub vars : (chain_after c other (here x)).vars ≡ (state_along c words g feed x).cells.vars
+    pub seen : chain_seen c other (here x) ≡ graph_seen c mail g feed x
+    pub vars : (chain_after c other (here x)).vars ≡ (state_along c mail g feed x).cells.vars
 
   follower : (feed : Feed) (x : GraphState) → Follower x feed
-  follower [] x = record { other = []; seen = refl; vars = f.vars words x }
+  follower [] x = record { other = []; seen = refl; vars = f.vars mail x }
   follower (tables ∷ feed) x =
-      let m = f.matched c words tables x in
-      let turn = graph_step c words tables x g in
+      let m = f.matched c mail tables x in
+      let turn = graph_step c mail tables x g in
       let more = follower feed turn.state in
       let h = fed c m.count tables (here x) (turn_by here turn) more.other m.steps in
       record { other = h.whole; seen = h.seen ∙ ap (seen_then tables turn.event) more.seen; vars = ap (λ (t : ChainState). t.vars) h.after ∙ more.vars }
 
   pub chain_matches : (feed : Feed) → (other : Feed)
-      × (chain_seen c other (chain_start chain words) ≡ graph_seen c words g feed first)
-      × ((chain_after c other (chain_start chain words)).vars ≡ (state_along c words g feed first).cells.vars)
+      × (chain_seen c other (chain_start chain (in_hand mail (graph_start g chain.vars))) ≡ graph_seen c mail g feed first)
+      × ((chain_after c other (chain_start chain (in_hand mail (graph_start g chain.vars)))).vars ≡ (state_along c mail g feed first).cells.vars)
   chain_matches feed =
-      let start = f.starts c words [] in
+      let start = f.starts c mail [] in
       let more = follower feed first in
-      let h = fed c start.0 [] (chain_start chain words) (unchanged [] (here first)) more.other start.1 in
+      let h = fed c start.0 [] (chain_start chain (in_hand mail (graph_start g chain.vars))) (unchanged [] (here first)) more.other start.1 in
       (h.whole, h.seen ∙ more.seen, ap (λ (t : ChainState). t.vars) h.after ∙ more.vars)
 
 pub equal_up_to_silence : (tables : List TableInit) (chain : ChainInit) (g : Graph) → Follows chain g → FitsGraph tables chain g → EqualUpToSilence chain g
-equal_up_to_silence tables chain g f fits = (λ c words feed. chain_matches tables chain g f fits c words feed, λ c words feed. blocks_match tables chain g f fits c words feed)
+equal_up_to_silence tables chain g f fits = (λ c mail feed. chain_matches tables chain g f fits c mail feed, λ c mail feed. blocks_match tables chain g f fits c mail feed)

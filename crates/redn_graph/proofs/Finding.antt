@@ -18,23 +18,12 @@ use Rattle.redn_graph.specs.Words.{test_end}
 use Rattle.redn_graph.specs.Finding.{unseen, IsFound, unseen_slots, slots_at, slots_in, More, Numbered, Renamed, was_at}
 use Rattle.redn_graph.proofs.Indexes.{slice_get_append_left, slice_get_append_at}
 
-pub more_none : (f : Found) → More f f
-more_none f = record { same_count = refl; longer = omega arith; kept = λ k t h. h; slots = λ blocks h. refl }
-
 pub more_then : {a b c : Found} → More a b → More b c → More a c
 more_then m n = record {
   same_count = n.same_count ∙ m.same_count;
   longer = omega (arith, m.longer, n.longer);
   kept = λ k t h. n.kept k t (m.kept k t h);
   slots = λ blocks h. n.slots blocks (h ∙ sym m.same_count) ∙ m.slots blocks h;
-}
-
--- a known block
-pub numbered_known : (f : Found) (block l : ℕ) → IsFound f → block < length f.numbers.items → l ≡ slice_index f.numbers.items block → l < length f.numbers.items → Numbered f f block l
-numbered_known f block l found there is known = record {
-  more = more_none f;
-  there = ap (slice_get f.order.items) is ∙ found.back block there (omega (arith, is, known));
-  own = λ k low high. absurd (omega (arith, low, high));
 }
 
 pub unseen_one : (n v : ℕ) → n ≤ v → unseen n v ≡ 1
@@ -174,14 +163,6 @@ renamed_two old mid new t u a b end renumbers targets is_target one two =
         | inr ge ↦ is_target a b k (inr (two.own k ge high))
       ];
     }
-
-pub renamed_none : (old : Found) (words list : List Cell) → list ≡ words → Renamed old old (e.Reply words) (e.Reply list)
-renamed_none old words list is = record {
-  more = more_none old;
-  same = ap e.Reply (sym is);
-  within = λ l none. absurd none;
-  own = λ k low high. absurd (omega (arith, low, high));
-}
 
 -- a test
 test_renumbered : (wide : Bool) (left right : Cell) (f : ℕ → ℕ) (i j : ℕ) → renumbered f (test_end wide left right i j) ≡ test_end wide left right (f i) (f j)

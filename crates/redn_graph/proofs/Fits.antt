@@ -26,12 +26,6 @@ use Rattle.redn_graph.specs.Words.{move_of, test_end}
 use Rattle.redn_graph.specs.Fits.{Things, IsCell, FitsInstr, FitsEnd, IsFull, FitsCode, FitsBlock, FitsTail, Fitted, IsWithin, IsWell, AllWell}
 use Rattle.redn_graph.proofs.Indexes.{slice_get_append_left, slice_get_append_at}
 
-false_true : false ≡ true → ⊥
-false_true e = cc
-
-some_same : (a b : Block) → Some a ≡ Some b → a ≡ b
-some_same a b e = cc
-
 pub fitted_none : (n : Things) (blocks : List Block) → Fitted n blocks blocks
 fitted_none n blocks = record { longer = omega arith; kept = λ l h. refl; added = λ l b low high is. absurd (omega arith) }
 
@@ -41,18 +35,6 @@ fitted_then n {b = mid} x y = record {
   kept = λ l h. let lt : l < length mid = omega (arith, x.longer, h) in y.kept l lt ∙ x.kept l h;
   added = λ l b low high is. elim (cases_lt l (length mid)) [ inl lt ↦ x.added l b low lt (sym (y.kept l lt) ∙ is) | inr ge ↦ y.added l b ge high is ];
 }
-
-pub fitted_one : (n : Things) (blocks : List Block) (b : Block) → FitsBlock n b → Fitted n blocks (blocks ++ b ∷ [])
-fitted_one n blocks b fits =
-    let more = length-append blocks (b ∷ []) in
-    record {
-      longer = omega (arith, more);
-      kept = λ l h. slice_get_append_left blocks (b ∷ []) l h;
-      added = λ l c low high is.
-          let at : l ≡ length blocks = omega (arith, more) in
-          let same : Some b ≡ Some c = sym (ap (slice_get (blocks ++ b ∷ [])) at ∙ slice_get_append_at blocks b) ∙ is in
-          subst (FitsBlock n) (some_same b c same) fits;
-    }
 
 -- a block is reserved, others are added, and it is bound to one that fits
 pub fitted_bound : (n : Things) {old last bound : List Block} (spare : Block) (head : ℕ) → head ≡ length old → Fitted n (old ++ spare ∷ []) last → length bound ≡ length last → ((l : ℕ) → l ≢ head → slice_get bound l ≡ slice_get last l) → ((b : Block) → slice_get bound head ≡ Some b → FitsBlock n b) → Fitted n old bound
@@ -171,11 +153,6 @@ module _ (n : Things) where
       let h = well_layer st (Kernel-F.Reply list) well (ap out-Kernel is ∙ k.outs-Reply list) in
       (named_cells list h.0, omega (arith, length-map list cell_of, h.1), omega (arith, length-map list cell_of, h.2))
 
-pub all_reversed : {X : Type 0} (P : X → Type 0) (xs : List X) → All P xs → All P (reverse xs)
-all_reversed P [] h = h
-all_reversed P (x ∷ xs) h =
-    subst (All P) (sym (reverse-append (x ∷ []) xs)) (All-append P (reverse xs) (x ∷ []) (all_reversed P xs (All-tail P x xs h)) (All-cons P x [] (All-head P x xs h) (All-nil P)))
-
 -- an open block that fits
 pub open_fits : (n : Things) (t : Tail) (list : List Instr) (end : End) → IsOpen t list end → FitsCode n list end → FitsTail n t
 open_fits n (tail.To l) list end opens fits = absurd opens
@@ -189,30 +166,10 @@ full_more n instrs i (Test64 left right met unmet) = tt
 full_more n instrs i (Probe to table offset key hit miss) = tt
 full_more n instrs i (Reply cells) = tt
 
-full_reversed : (n : Things) (instrs : List Instr) (end : End) → IsFull n instrs end → IsFull n (reverse instrs) end
-full_reversed n instrs (Jump to) h = omega (arith, length-reverse instrs, h)
-full_reversed n instrs (Test48 left right met unmet) h = tt
-full_reversed n instrs (Test64 left right met unmet) h = tt
-full_reversed n instrs (Probe to table offset key hit miss) h = tt
-full_reversed n instrs (Reply cells) h = tt
-
--- one more instruction
-pub more_fits : (n : Things) (instrs more : List Instr) (i : Instr) (end : End) → more ≡ instrs ++ i ∷ [] → FitsInstr n i → FitsCode n instrs end → FitsCode n more end
-more_fits n instrs more i end is fit fits =
-    subst (λ (list : List Instr). FitsCode n list end) (sym is)
-    (record { instrs_fit = All-append (FitsInstr n) instrs (i ∷ []) fits.instrs_fit (All-cons (FitsInstr n) i [] fit (All-nil (FitsInstr n))); end_fits = fits.end_fits; full = full_more n instrs i end })
-
 pub alone_fits : (n : Things) (instrs : List Instr) (i : Instr) (end : End) → instrs ≡ i ∷ [] → FitsInstr n i → FitsEnd n end → FitsCode n instrs end
 alone_fits n instrs i end is fit fits =
     subst (λ (list : List Instr). FitsCode n list end) (sym is)
     (record { instrs_fit = All-cons (FitsInstr n) i [] fit (All-nil (FitsInstr n)); end_fits = fits; full = full_more n [] i end })
-
--- the other way round
-pub reversed_fits : (n : Things) (instrs : List Instr) (end : End) (b : Block) → b.instrs ≡ reverse instrs → b.end ≡ end → FitsCode n instrs end → FitsBlock n b
-reversed_fits n instrs end b is ends fits =
-    subst (λ (e : End). FitsCode n b.instrs e) (sym ends)
-    (subst (λ (list : List Instr). FitsCode n list end) (sym is)
-    (record { instrs_fit = all_reversed (FitsInstr n) instrs fits.instrs_fit; end_fits = fits.end_fits; full = full_reversed n instrs end fits.full }))
 
 pub within_before : (n : Things) (old new : Builder) → length old.blocks ≤ length new.blocks → old.hidden ≤ new.hidden → IsWithin n new → IsWithin n old
 within_before n old new few less w = record { few_blocks = omega (arith, w.few_blocks); few_hidden = omega (arith, w.few_hidden); searches = w.searches }

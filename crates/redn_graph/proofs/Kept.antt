@@ -15,10 +15,10 @@ use Rattle.redn_graph.specs.Follows.{Follows}
 use Rattle.redn_graph.specs.Fits.{Things, IsCell, IsTarget, FitsInstr, FitsEnd, IsFull, FitsBlock, FitsGraph, things_of}
 use Rattle.redn_graph.specs.Slots.{instr_slots, end_slots, block_slots, all_slots, AreSmall}
 use Rattle.redn_graph.specs.Reached.{renumbered, Was}
-use Rattle.redn_graph.specs.Finding.{Kept, TargetsThere, EachThere, FollowsAnywhere}
+use Rattle.redn_graph.specs.Finding.{Kept, TargetsThere, EachThere, FollowsIdly}
 use Rattle.redn_graph.specs.Idle.{past_idle, passed}
 use Rattle.redn_graph.proofs.Renumbering.{follows_still}
-use Rattle.redn_graph.proofs.Passing.{follows_past}
+use Rattle.redn_graph.proofs.Passing.{idly_past}
 
 some_is : {a b : Block} → Some a ≡ Some b → a ≡ b
 some_is e = cc
@@ -159,9 +159,9 @@ module _ (g h : Graph) (kept : Kept (passed g) h) where
   pub kept_slots : all_slots h.blocks ≤ all_slots g.blocks
   kept_slots = omega (arith, kept.slots, passed_slots g.blocks)
 
-  pub kept_follows : (chain : ChainInit) → FollowsAnywhere chain g → Follows chain h
+  pub kept_follows : (chain : ChainInit) → FollowsIdly chain g → Follows chain h
   kept_follows chain f =
-      follows_still chain (passed g) h kept.at kept.was kept.past kept.entry (follows_past chain g f.follows (f.affords (r g.entry) (record { vars = chain.vars; hidden = λ _. 0 })))
+      follows_still chain (passed g) h kept.at kept.was kept.past kept.entry (idly_past chain g f)
 
 -- what a graph that fits gives
 pub each_there : (tables : List TableInit) (chain : ChainInit) (g : Graph) → FitsGraph tables chain g → EachThere g.blocks

@@ -26,14 +26,6 @@ pub works_open : (t : Tail) (list : List Instr) (end : End) → IsOpen t list en
 works_open (tail.To l) list end opens works = absurd opens
 works_open (tail.Open instrs last) list end opens works = code_works (reverse instrs.items) last (ap (λ (is : List Instr). only_puts_back (reverse is)) opens.0 ∙ works)
 
-more_than_one : (i : Instr) (rest : List Instr) → puts_back i ≡ false → only_puts_back (i ∷ rest) ≡ false
-more_than_one i [] works = works
-more_than_one i (j ∷ rest) works = refl
-
--- an instruction that does something stands in front
-pub front_works : (old new : List Instr) (i : Instr) → new ≡ old ++ i ∷ [] → puts_back i ≡ false → only_puts_back (reverse new) ≡ false
-front_works old new i is works = ap only_puts_back (ap reverse is ∙ reverse-append old (i ∷ [])) ∙ more_than_one i (reverse old) works
-
 pub works_among : (n : ℕ) (t : Tail) → Works t → IsAmong n t
 works_among n (tail.To l) works = absurd works
 works_among n (tail.Open instrs end) works = works
@@ -83,14 +75,6 @@ onward_then {old = old} {mid = mid} {exit = exit} {i = i} {j = j} {b = b} {d = d
         | inl on ↦ elim (x.leads r lt on.1) [ inl far ↦ inl (both j i on.0 far.0, far.1) | inr out ↦ inr (either d (j && b) (both j b on.0 out.0), out.1) ]
         | inr out ↦ inr (ap (λ (x : Bool). x || (j && b)) out.0, (stops_before old mid (kept_idle old mid x.added.kept) all exit r there out.1).1)
       ];
-}
-
--- behind a step that does something
-pub onward_past : (old mid new : List Block) (exit : ℕ) (before step after : Tail) (idle : Bool) → Added old mid → Works step → Onward mid new exit step after true false → Onward old new exit before after idle false
-onward_past old mid new exit before step after idle added works y = record {
-  added = added_then added y.added;
-  among = y.among;
-  leads = λ r lt stops. elim (y.leads r (omega (arith, lt, added.longer)) stops) [ inl on ↦ works_never mid step r works on.1 | inr out ↦ false_true out.0 ];
 }
 
 pub works_idle : (t : Tail) → Works t → tail_idle t ≡ None
@@ -166,9 +150,6 @@ module _ (old b1 b2 b3 b4 : List Block) (exit out head : ℕ) (spare : Block) (b
 
 pub onward_as : {old new : List Block} {exit : ℕ} {before after : Tail} {i j b d : Bool} → ((i ≡ true) → (j ≡ true)) → ((b ≡ true) → (d ≡ true)) → Onward old new exit before after i b → Onward old new exit before after j d
 onward_as idle breaks x = record { added = x.added; among = x.among; leads = λ r lt stops. elim (x.leads r lt stops) [ inl on ↦ inl (idle on.0, on.1) | inr out ↦ inr (breaks out.0, out.1) ] }
-
-pub onward_any : {old new : List Block} {exit : ℕ} {before after : Tail} {j d : Bool} → Onward old new exit before after false false → Onward old new exit before after j d
-onward_any x = onward_as (λ e. false_true e) (λ e. false_true e) x
 
 -- a break
 pub break_leads : (blocks : List Block) (exit : ℕ) (t : Tail) (i b : Bool) → b ≡ true → exit < length blocks → LeadsOn blocks blocks exit t (tail.To exit) i b

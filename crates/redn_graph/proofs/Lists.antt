@@ -1,11 +1,11 @@
 -- Statements of a list, the last one first.
-use Rattle.std.proofs.Common.{◌≡◌, ℕ, suc, ◌+◌, ◌-◌, ◌*◌, ◌<◌, ◌≤◌, ◌&&◌, false, List, [], ◌∷◌, length, drop, get_or, ap, ◌∙◌, subst, arith, drop-cons}
+use Rattle.std.proofs.Common.{◌≡◌, ℕ, suc, ◌+◌, ◌-◌, ◌*◌, ◌<◌, ◌≤◌, ◌&&◌, false, List, [], ◌∷◌, length, drop, get_or, ap, ◌∙◌, refl, sym, Result, Ok, Err, IfOk, subst, arith, drop-cons}
 use Rattle.std.proofs.lemmas.List.Sums.{sum-map, sum_by-take-drop}
 use Rattle.std.proofs.lemmas.List.Elements.{All-cons, All-nil, All-head, All-tail, All-drop}
 use Rattle.std.specs.List.{All}
 use Rattle.redn_kernel.specs.declared.types.Kernel.{Kernel}
 use Rattle.redn_kernel.specs.Program.{weight_of, weight_of_all, idles_of, is_idle_body, breaks_idly}
-use Rattle.redn_kernel.specs.Tasks.{IsUsable}
+use Rattle.redn_kernel.specs.Program.{IsUsable}
 use Rattle.redn_graph.specs.declared.build.Builder.{Builder}
 use Rattle.redn_graph.specs.declared.build.Tail.{Tail}
 use Rattle.redn_graph.specs.Code.{Compiles}
@@ -13,33 +13,27 @@ use Rattle.redn_graph.specs.Slots.{SlotsWithin, Sized}
 use Rattle.redn_graph.specs.Onward.{LeadsOn}
 use Rattle.redn_graph.proofs.LeadingOn.{leads_same, onward_then, onward_as, one_idle, one_breaks, idle_joined, breaks_joined}
 use Rattle.redn_graph.specs.Growth.{Grown, AllSound, IsSoundOne}
-use Rattle.redn_graph.specs.Hidden.{repeats_in, repeats_in_all}
+use Rattle.redn_graph.specs.Hidden.{repeats_in}
 use Rattle.redn_graph.proofs.Repeats.{repeats_first}
 use Rattle.redn_graph.specs.Fits.{Things, FitsTail, Fitted, IsWithin, IsWell, AllWell}
 use Rattle.redn_graph.proofs.Building.{compiles_none, compiles_list}
 use Rattle.redn_graph.proofs.Fits.{fitted_none, fitted_then, within_before}
-use Rattle.redn_graph.proofs.Statements.{weight_first}
-
--- these statements have code before a tail
-pub record Listed (old new : Builder) (exit : ℕ) (before : Tail) (body : List Kernel) (after : Tail) : Type 0 where
-  pub compiles : Compiles old.blocks new.blocks old.hidden exit body before after
-  pub slots : SlotsWithin old.blocks new.blocks before after (37 * weight_of_all body)
-  pub grown : Grown old new (weight_of_all body)
-  pub hidden : new.hidden ≡ old.hidden + repeats_in_all body
-  pub fits : (n : Things) → IsWithin n new → exit < n.blocks → AllWell n body → FitsTail n before → Fitted n old.blocks new.blocks × FitsTail n after
-  pub size : Sized old.blocks new.blocks before after (weight_of_all body)
-  pub leads : exit < length old.blocks → LeadsOn old.blocks new.blocks exit before after (is_idle_body body) (breaks_idly body)
+use Rattle.redn_graph.specs.Listed.{Listed}
+use Rattle.redn_graph.proofs.Statements.{weight_first, first_sound, rest_sound}
 
 pub listed_none : (b : Builder) (exit : ℕ) (t : Tail) → Listed b b exit t [] t
 listed_none b exit t = record {
   compiles = compiles_none b.blocks b.hidden exit t;
   slots = omega arith;
   grown = record { more = omega arith; cells = omega arith; longer = omega arith; blocks = omega arith };
-  hidden = omega arith;
+  hidden = λ sound. omega arith;
   fits = λ n within there all tail. (fitted_none n b.blocks, tail);
   size = λ size most some fits room small. (small, omega (arith, fits));
-  leads = λ there. leads_same b.blocks exit t false;
+  leads = λ sound there. leads_same b.blocks exit t false;
 }
+
+alone_sound : (first : Kernel) → IsSoundOne first → AllSound (first ∷ [])
+alone_sound first u = (u.0, All-cons (IsUsable u.0) first [] u.1 (All-nil (IsUsable u.0)))
 
 one_well : (n : Things) (statement : Kernel) → IsWell n statement → AllWell n (statement ∷ [])
 one_well n statement well = All-cons (IsWell n) statement [] well (All-nil (IsWell n))
@@ -57,7 +51,7 @@ listed_more {old = old} {mid = mid} {exit = exit} {before = before} {behind = be
         longer = omega (arith, x.grown, y.grown);
         blocks = omega (arith, x.grown, y.grown, whole, alone);
       };
-      hidden = omega (arith, x.hidden, y.hidden, repeats_first first rest, repeats_first first []);
+      hidden = λ sound. omega (arith, x.hidden (rest_sound first rest _ refl sound), y.hidden (alone_sound first (first_sound first rest _ refl sound)), repeats_first first rest, repeats_first first []);
       fits = λ n within there all tail.
           let earlier = within_before n mid _ y.grown.longer y.grown.more within in
           let p = x.fits n earlier there (All-tail (IsWell n) first rest all) tail in
@@ -67,27 +61,38 @@ listed_more {old = old} {mid = mid} {exit = exit} {before = before} {behind = be
           let p = x.size size most some fits (omega (arith, whole, room)) small in
           let q = y.size (size + 10 * weight_of_all rest) most (omega (arith, some)) p.1 (omega (arith, whole, alone, room)) p.0 in
           (q.0, omega (arith, whole, alone, q.1));
-      leads = λ there all among.
-          let p = x.leads there all among in
-          let q = y.leads (omega (arith, there, p.added.longer)) p.added.all_stop p.among in
+      leads = λ sound there all among.
+          let p = x.leads (rest_sound first rest _ refl sound) there all among in
+          let q = y.leads (alone_sound first (first_sound first rest _ refl sound)) (omega (arith, there, p.added.longer)) p.added.all_stop p.among in
           let i = idles_of first in
-          onward_as (idle_joined i.is_idle (is_idle_body rest)) (breaks_joined i.is_break i.is_idle (breaks_idly rest)) (onward_then all there p q);
+          onward_as (λ e. idle_joined i.is_idle (is_idle_body rest) e) (breaks_joined i.is_break i.is_idle (breaks_idly rest)) (onward_then all there p q);
     }
 
-pub listed_one : {mid new : Builder} {exit : ℕ} {behind after : Tail} (first : Kernel) → Compiles mid.blocks new.blocks mid.hidden exit (first ∷ []) behind after → SlotsWithin mid.blocks new.blocks behind after (37 * weight_of first) → Grown mid new (weight_of first) → new.hidden ≡ mid.hidden + repeats_in first →
-    ((n : Things) → IsWithin n new → exit < n.blocks → IsWell n first → FitsTail n behind → Fitted n mid.blocks new.blocks × FitsTail n after) → Sized mid.blocks new.blocks behind after (weight_of first) →
-    (exit < length mid.blocks → LeadsOn mid.blocks new.blocks exit behind after (idles_of first).is_idle (idles_of first).is_break) → Listed mid new exit behind (first ∷ []) after
+-- one statement, by its own weight and repeats
+pub listed_one : {mid new : Builder} {exit : ℕ} {behind after : Tail} (first : Kernel) → Compiles mid.blocks new.blocks mid.hidden exit (first ∷ []) behind after → SlotsWithin mid.blocks new.blocks behind after (37 * weight_of first) →
+    Grown mid new (weight_of first) →
+    (IsSoundOne first → new.hidden ≡ mid.hidden + repeats_in first) → ((n : Things) → IsWithin n new → exit < n.blocks → IsWell n first → FitsTail n behind → Fitted n mid.blocks new.blocks × FitsTail n after) →
+    Sized mid.blocks new.blocks behind after (weight_of first) →
+    (IsSoundOne first → exit < length mid.blocks → LeadsOn mid.blocks new.blocks exit behind after (idles_of first).is_idle (idles_of first).is_break) → Listed mid new exit behind (first ∷ []) after
 listed_one {mid = mid} {new = new} {behind = behind} {after = after} first compiles slots grown hidden fits size leads =
     let alone : weight_of first ≡ weight_of_all (first ∷ []) = omega (arith, weight_first first []) in
     record {
       compiles = compiles;
       slots = omega (arith, slots, alone);
       grown = subst (λ (w : ℕ). Grown mid new w) alone grown;
-      hidden = omega (arith, hidden, repeats_first first []);
+      hidden = λ sound. omega (arith, hidden (first_sound first [] _ refl sound), repeats_first first []);
       fits = λ n within there all tail. fits n within there (All-head (IsWell n) first [] all) tail;
       size = subst (λ (w : ℕ). Sized mid.blocks new.blocks behind after w) alone size;
-      leads = λ there all among. let i = idles_of first in onward_as (one_idle i.is_idle) (one_breaks i.is_break (i.is_idle && false)) (leads there all among);
+      leads = λ sound there all among.
+          let i = idles_of first in
+          onward_as (one_idle i.is_idle) (one_breaks i.is_break (i.is_idle && false)) (leads (first_sound first [] _ refl sound) there all among);
     }
+
+-- the same of a statement that is this one
+pub listed_as : {A : Type 0} (r : Result Tail A) (old new : Builder) (exit : ℕ) (before : Tail) (st kind : Kernel) → st ≡ kind → IfOk r (λ after. Listed old new exit before (kind ∷ []) after) →
+    IfOk r (λ after. Listed old new exit before (st ∷ []) after)
+listed_as (Ok after) old new exit before st kind is l = subst (λ (u : Kernel). Listed old new exit before (u ∷ []) after) (sym is) l
+listed_as (Err e) old new exit before st kind is l = l
 
 pub last_and_more : (body : List Kernel) (i : ℕ) (d : Kernel) → 0 < i → i ≤ length body → drop (i - 1) body ≡ get_or body (i - 1) d ∷ drop i body
 last_and_more body i d some few =

@@ -8,7 +8,7 @@ use Rattle.redn_graph.specs.declared.types.Instr.TheVariants.{Set, Move, Add, Lo
 use Rattle.redn_graph.specs.declared.types.End.{End}
 use Rattle.redn_kernel.specs.CoreRun.{Cells}
 use Rattle.redn_graph.specs.Run.{Way, On, Taking, To, Out, Effect, effect, within, instr_does, end_does, instr_cost, end_cost}
-use Rattle.redn_graph.specs.Code.{Meaning, InstrRuns, EndRuns, Runs, Does, meaning_at, next_place, next_block, left_on, left_after, block_worth}
+use Rattle.redn_graph.specs.Code.{Meaning, InstrRuns, EndRuns, Runs, Does, Label, meaning_at, worth_at, next_place, next_block, left_on, left_after}
 use Rattle.redn_graph.proofs.Idling.{does_after, does_to}
 
 -- the step from a place
@@ -33,7 +33,7 @@ goes_on_or_out c words tables s (Add to by) = inl refl
 goes_on_or_out c words tables s (Load to table offset) = within_way c words tables s table _ _ refl
 goes_on_or_out c words tables s (Store table offset from) = within_way c words tables s table _ _ refl
 
-module _ (all : List Meaning) (end : End) where
+module _ (all : List Label) (end : End) where
   -- the items at an end, at its second step, and once it has ended the chain
   abbrev pub end_items : (m : Meaning) (p : ℕ) → EndRuns all end m p → Bool → Bool → Meaning
   end_items m p r true ended = r.taking
@@ -86,7 +86,7 @@ module _ (all : List Meaning) (end : End) where
   abbrev pub left_in : (instrs : List Instr) (m : Meaning) (p : ℕ) → Runs all end instrs m p → ℕ → Way → ℕ
   left_in instrs m p r k On = worth_in instrs m p r (suc k) false false
   left_in instrs m p r k Taking = worth_in instrs m p r k true false
-  left_in instrs m p r k (To l) = block_worth
+  left_in instrs m p r k (To l) = worth_at all l
   left_in instrs m p r k Out = 0
 
   pub affords_in : (instrs : List Instr) (m : Meaning) (p : ℕ) (r : Runs all end instrs m p) (k : ℕ) (taking : Bool) → place_cost taking (slice_get instrs k) end ≤ worth_in instrs m p r k taking false
@@ -101,7 +101,7 @@ module _ (all : List Meaning) (end : End) where
   end_next m p r k (To l) = refl
   end_next m p r k Out = refl
 
-  end_left : (m : Meaning) (p : ℕ) (r : EndRuns all end m p) (k : ℕ) (w : Way) → left_in [] m p r k w ≤ left_after p r.taking_worth w
+  end_left : (m : Meaning) (p : ℕ) (r : EndRuns all end m p) (k : ℕ) (w : Way) → left_in [] m p r k w ≤ left_after all p r.taking_worth w
   end_left m p r k On = omega arith
   end_left m p r k Taking = omega arith
   end_left m p r k (To l) = omega arith
@@ -113,7 +113,7 @@ module _ (all : List Meaning) (end : End) where
   second_next m p r k (To l) = refl
   second_next m p r k Out = refl
 
-  second_left : (m : Meaning) (p : ℕ) (r : EndRuns all end m p) (k : ℕ) (w : Way) → left_in [] m p r k w ≤ left_after p r.taking_worth w
+  second_left : (m : Meaning) (p : ℕ) (r : EndRuns all end m p) (k : ℕ) (w : Way) → left_in [] m p r k w ≤ left_after all p r.taking_worth w
   second_left m p r k w = end_left m p r k w
 
   module _ (c : ℕ) (words : List ℕ) (tables : List (List ℕ)) (s : Cells) where

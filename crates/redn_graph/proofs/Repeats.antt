@@ -1,11 +1,11 @@
 -- Repeats in statements, as the code meets them.
-use Rattle.std.proofs.Common.{◌≡◌, ℕ, ◌+◌, ◌≤◌, Bool, List, [], ◌∷◌, OnOk, Result, Ok, Err, refl, sym, ap, ◌∙◌, subst, arith}
+use Rattle.std.proofs.Common.{◌≡◌, ℕ, ◌+◌, Bool, true, false, List, ◌∷◌, refl, sym, ap, ◌∙◌}
 use Rattle.std.proofs.lemmas.List.Sums.{sum-map, sum_by-cons}
-use Rattle.redn_words.specs.declared.types.Memory.{Memory}
 use Rattle.redn_kernel.specs.declared.types.Word.{Word}
 use Rattle.redn_kernel.specs.declared.types.Kernel.{Kernel, out-Kernel, roll-Kernel, roll-out-Kernel, map-Kernel, fold_out-Kernel}
 use Rattle.redn_kernel.specs.declared.types.Kernel.TheOpen.{Kernel-F}
 use Rattle.redn_kernel.specs.declared.types.Kernel.TheVariants as k
+use Rattle.redn_graph.specs.Statements.{is_search, searches}
 use Rattle.redn_graph.specs.Hidden.{repeats_by, repeats_in, repeats_in_all}
 
 repeats_out : (st : Kernel) (layer : Kernel-F Kernel) → out-Kernel st ≡ layer → repeats_in st ≡ repeats_by (map-Kernel Kernel ℕ repeats_in layer)
@@ -61,27 +61,26 @@ pub none_in_lookup : (x table : ℕ) (a key : Word) (n : ℕ) → repeats_in (k.
 unfolding repeats_by
 none_in_lookup x table a key n = repeats_out _ _ (k.outs-Lookup x table a key n)
 
-pub none_in_walk : (x table : ℕ) (a key : Word) (n : ℕ) → repeats_in (k.Walk x table a key n) ≡ 0
-unfolding repeats_by
-none_in_walk x table a key n = repeats_out _ _ (k.outs-Walk x table a key n)
-
 pub repeats_first : (first : Kernel) (rest : List Kernel) → repeats_in_all (first ∷ rest) ≡ repeats_in first + repeats_in_all rest
 repeats_first first rest = sum-map repeats_in (first ∷ rest) ∙ sum_by-cons repeats_in first rest ∙ ap (λ (n : ℕ). repeats_in first + n) (sym (sum-map repeats_in rest))
 
--- as many more as another way to count them says
-pub more_still : {A : Type 0} (r : Result A Memory) (new old one other : ℕ) → one ≡ other → OnOk r (new ≡ old + one) → OnOk r (new ≡ old + other)
-more_still (Ok a) new old one other e h = h ∙ ap (λ (n : ℕ). old + n) e
-more_still (Err m) new old one other e h = h
+-- a search has none
+pub searches_repeat : (st : Kernel) → is_search st ≡ true → repeats_in st ≡ 0
+unfolding repeats_by
+searches_repeat st looks = repeats_out st (out-Kernel st) refl ∙ by_search (out-Kernel st) looks
+  where
+    none : {A : Type 0} → false ≡ true → A
+    none e = absurd (let h : ⊥ = cc in h)
 
--- none where there are none
-pub none_more : {A : Type 0} (r : Result A Memory) (old count : ℕ) → count ≡ 0 → OnOk r (old ≡ old + count)
-none_more (Ok a) old count e = omega (arith, e)
-none_more (Err m) old count e = tt
-
-pub some_more : {A : Type 0} (r : Result A Memory) (new old one other n : ℕ) → 1 ≤ n → one ≡ other → OnOk r (1 ≤ n → new ≡ old + one) → OnOk r (new ≡ old + other)
-some_more (Ok a) new old one other n some e h = h some ∙ ap (λ (n : ℕ). old + n) e
-some_more (Err m) new old one other n some e h = h
-
-pub same_more : {A : Type 0} (r : Result A Memory) (new old count : ℕ) → count ≡ 0 → OnOk r (new ≡ old) → OnOk r (new ≡ old + count)
-same_more (Ok a) new old count e h = omega (arith, e, h)
-same_more (Err m) new old count e h = h
+    by_search : (layer : Kernel-F Kernel) → searches layer ≡ true → repeats_by (map-Kernel Kernel ℕ repeats_in layer) ≡ 0
+    by_search (Kernel-F.Lookup x table a key n) e = refl
+    by_search (Kernel-F.Walk x table a key n) e = refl
+    by_search (Kernel-F.Move x a) e = none e
+    by_search (Kernel-F.Add x a) e = none e
+    by_search (Kernel-F.Load x table a) e = none e
+    by_search (Kernel-F.Store table a b) e = none e
+    by_search (Kernel-F.If wide a b met unmet) e = none e
+    by_search (Kernel-F.Loop body) e = none e
+    by_search (Kernel-F.Repeat n body) e = none e
+    by_search Kernel-F.Break e = none e
+    by_search (Kernel-F.Reply words) e = none e

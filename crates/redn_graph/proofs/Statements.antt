@@ -1,15 +1,14 @@
 -- Statements by their kinds, as the code meets them.
-use Rattle.std.proofs.Common.{◌≡◌, ℕ, Bool, true, false, ◌*◌, ◌+◌, ◌-◌, ◌<◌, ◌≤◌, List, [], ◌∷◌, length, take, drop, get_or, Result, Ok, Err, IfOk, OnOk, refl, sym, ap, ◌∙◌, subst, arith}
+use Rattle.std.proofs.Common.{◌≡◌, ℕ, Bool, true, false, None, ◌+◌, ◌-◌, ◌<◌, ◌≤◌, List, [], ◌∷◌, length, take, drop, get_or, Result, Ok, Err, IfOk, OnOk, refl, sym, ap, ◌∙◌, subst, arith}
 use Rattle.std.proofs.lemmas.List.{take_all}
 use Rattle.std.proofs.lemmas.List.Sums.{sum-map, sum_by-cons}
-use Rattle.redn_words.specs.declared.types.Memory.{Memory}
 use Rattle.redn_kernel.specs.declared.types.Word.{Word}
 use Rattle.redn_kernel.specs.declared.types.Word.TheVariants.{Var, Num}
 use Rattle.redn_kernel.specs.declared.types.Kernel.{Kernel, out-Kernel, map-Kernel, every_here-Kernel}
 use Rattle.redn_kernel.specs.declared.types.Kernel.TheOpen.{Kernel-F}
 use Rattle.std.proofs.lemmas.List.Elements.{All-head, All-tail}
 use Rattle.redn_kernel.specs.Program.{weight_of, weight_of_all, weight_by, falls_through, IsSoundStatement, is_idle_body}
-use Rattle.redn_kernel.specs.Tasks.{IsUsable, AllUsable}
+use Rattle.redn_kernel.specs.Program.{IsUsable, AllUsable}
 use Rattle.redn_kernel.proofs.Statements.{if_usable, loop_usable, repeat_usable}
 use Rattle.redn_kernel.proofs.Cases.{weight_out}
 use Rattle.redn_graph.specs.declared.build.Builder.{Builder}
@@ -20,12 +19,14 @@ use Rattle.redn_graph.specs.declared.types.End.{End}
 use Rattle.redn_graph.specs.declared.types.Block.{Block}
 use Rattle.redn_graph.specs.declared.build.Tail.{Tail}
 use Rattle.redn_graph.specs.declared.build.Tail.TheVariants as tail
-use Rattle.redn_graph.specs.Code.{Meaning, InstrRuns, EndRuns, Compiles, Precedes, Labels, IsOpen, block_worth, jump_worth}
+use Rattle.redn_kernel.specs.Costs.{statement_worth, jump_worth}
+use Rattle.redn_graph.specs.Idle.{jump_of}
+use Rattle.redn_graph.specs.Code.{Meaning, Label, InstrRuns, EndRuns, Compiles, Labels, IsOpen}
 use Rattle.redn_kernel.specs.CoreRun.{cell_of}
 use Rattle.redn_graph.specs.Statements.{DoesStatement}
 use Rattle.redn_graph.specs.Words.{move_of, test_end}
 use Rattle.redn_graph.proofs.Doing.{doing, set_runs, move_runs}
-use Rattle.redn_graph.proofs.Building.{compiles_instr, compiles_end, compiles_branch}
+use Rattle.redn_graph.proofs.Building.{compiles_end, compiles_branch}
 
 pub ok_still : {A E : Type 0} (r : Result A E) (P Q : A → Type 0) → ((a : A) → P a → Q a) → IfOk r P → IfOk r Q
 ok_still (Ok a) P Q f p = f a p
@@ -35,47 +36,30 @@ pub ok_any : {A E : Type 0} (r : Result A E) (P : A → Type 0) → ((a : A) →
 ok_any (Ok a) P f = f a
 ok_any (Err e) P f = tt
 
-pub ok_also : {A E : Type 0} (r : Result A E) (P : A → Type 0) (Q : Type 0) (R : A → Type 0) → ((a : A) → P a → Q → R a) → IfOk r P → OnOk r Q → IfOk r R
-ok_also (Ok a) P Q R f p q = f a p q
-ok_also (Err e) P Q R f p q = p
-
 pub ok_both : {A E : Type 0} (r : Result A E) (P Q R : A → Type 0) → ((a : A) → P a → Q a → R a) → IfOk r P → IfOk r Q → IfOk r R
 ok_both (Ok a) P Q R f p q = f a p q
 ok_both (Err e) P Q R f p q = p
-
-pub ok_on : {A E : Type 0} (r : Result A E) (P : A → Type 0) (Q : Type 0) → ((a : A) → P a → Q) → IfOk r P → OnOk r Q
-ok_on (Ok a) P Q f p = f a p
-ok_on (Err e) P Q f p = p
 
 pub empty_list : {A : Type 0} (xs : List A) → length xs < 1 → xs ≡ []
 empty_list [] h = refl
 empty_list (x ∷ xs) h = absurd (omega arith)
 
--- a list is its first element and the rest
-pub first_and_rest : {A : Type 0} (xs : List A) (x : A) → 1 ≤ length xs → x ≡ get_or xs 0 x → x ∷ take (length xs - 1) (drop 1 xs) ≡ xs
-first_and_rest [] x h e = absurd (omega arith)
-first_and_rest {A = A} (y ∷ xs) x h e = ap (λ (z : A). z ∷ take (length (y ∷ xs) - 1) xs) e ∙ ap (λ (zs : List A). y ∷ zs) (take_all (length (y ∷ xs) - 1) xs (omega arith))
-
-pub move_of_runs : (x : ℕ) (a : Word) (m : Meaning) → InstrRuns (move_of x a) (doing (k.Move x a) m) m block_worth jump_worth
+pub move_of_runs : (x : ℕ) (a : Word) (m : Meaning) → InstrRuns (move_of x a) (doing (k.Move x a) m) m statement_worth jump_worth
 move_of_runs x (Var y) m = move_runs m x (Var y)
 move_of_runs x (Num n) m = set_runs m x n
 
 -- an instruction that was made for a statement does what it does
-pub does_as : (st kind : Kernel) (instr made : Instr) → st ≡ kind → made ≡ instr → ((m : Meaning) → InstrRuns instr (doing kind m) m block_worth jump_worth) → DoesStatement st made
+pub does_as : (st kind : Kernel) (instr made : Instr) → st ≡ kind → made ≡ instr → ((m : Meaning) → InstrRuns instr (doing kind m) m statement_worth jump_worth) → DoesStatement st made
 does_as st kind instr made is same runs =
     subst (λ (u : Kernel). DoesStatement u made) (sym is) (subst (λ (i : Instr). DoesStatement kind i) (sym same) runs)
 
--- a statement that is one instruction
-pub compiles_as : (blocks : List Block) (hidden exit : ℕ) (st : Kernel) (instr : Instr) (t : Tail) (r : Result Tail Memory) → DoesStatement st instr → IfOk r (λ after. Precedes instr t after) → IfOk r (λ after. Compiles blocks blocks hidden exit (st ∷ []) t after)
-compiles_as blocks hidden exit st instr t r runs =
-    ok_still r (Precedes instr t) (Compiles blocks blocks hidden exit (st ∷ []) t) (λ after p. compiles_instr blocks hidden exit st instr t after runs p)
-
 -- a statement that is an end
-pub compiles_alone : (blocks : List Block) (hidden exit : ℕ) (st kind : Kernel) (end made : End) (t after : Tail) → st ≡ kind → made ≡ end → ((all : List Meaning) (m : Meaning) → EndRuns all end (doing kind m) block_worth) → IsOpen after [] made → Compiles blocks blocks hidden exit (st ∷ []) t after
-compiles_alone blocks hidden exit st kind end made t (tail.To l) is same runs opens = absurd opens
-compiles_alone blocks hidden exit st kind end made t (tail.Open instrs last) is same runs opens =
+pub compiles_alone : (blocks : List Block) (hidden exit : ℕ) (st kind : Kernel) (end made : End) (t after : Tail) → st ≡ kind → made ≡ end → jump_of end ≡ None →
+    ((all : List Label) (m : Meaning) → EndRuns all end (doing kind m) statement_worth) → IsOpen after [] made → Compiles blocks blocks hidden exit (st ∷ []) t after
+compiles_alone blocks hidden exit st kind end made t (tail.To l) is same stops runs opens = absurd opens
+compiles_alone blocks hidden exit st kind end made t (tail.Open instrs last) is same stops runs opens =
     subst (λ (u : Kernel). Compiles blocks blocks hidden exit (u ∷ []) t (tail.Open instrs last)) (sym is)
-    (compiles_end blocks hidden exit kind instrs last t opens.0 (λ all m. subst (λ (e : End). EndRuns all e (doing kind m) block_worth) (sym (opens.1 ∙ same)) (runs all m)))
+    (compiles_end blocks hidden exit kind instrs last t opens.0 (ap jump_of (opens.1 ∙ same) ∙ stops) (λ all m. subst (λ (e : End). EndRuns all e (doing kind m) statement_worth) (sym (opens.1 ∙ same)) (runs all m)))
 
 -- a test between two blocks
 pub compiles_test : {b0 b1 b2 b3 b4 b5 : List Block} {h0 h1 h2 : ℕ} (exit : ℕ) (wide : Bool) (a b : Word) (met unmet : List Kernel) (t : Tail) (next : ℕ) (one other : Tail) (yes_block no_block : ℕ) (made : End) (after : Tail) → h0 ≤ h1 → h0 ≤ h2 → made ≡ test_end wide (cell_of a) (cell_of b) yes_block no_block → IsOpen after [] made →
@@ -86,9 +70,9 @@ compiles_test {b0 = b0} {b5 = b5} {h0 = h0} exit wide a b met unmet t next one o
     subst (λ (e : End). Compiles b0 b5 h0 exit (k.If wide a b met unmet ∷ []) t (tail.Open instrs e)) (sym (opens.1 ∙ is))
     (compiles_branch exit wide a b met unmet t next one other yes_block no_block instrs le1 le2 opens.0 l0 c1 c2 l3 l4)
 
-pub grown_still : {A : Type 0} (r : Result A Memory) (old new : Builder) (one other : ℕ) → one ≡ other → OnOk r (Grown old new one) → OnOk r (Grown old new other)
-grown_still (Ok a) old new one other e g = subst (Grown old new) e g
-grown_still (Err m) old new one other e g = g
+-- nothing was added
+pub grown_none : (b : Builder) (weight : ℕ) → Grown b b weight
+grown_none b weight = record { more = omega arith; cells = omega arith; longer = omega arith; blocks = omega arith }
 
 weight_layer : (layer : Kernel-F Kernel) → 1 ≤ weight_by (map-Kernel Kernel ℕ weight_of layer)
 unfolding weight_by
@@ -109,9 +93,6 @@ weight_positive st = omega (arith, weight_out st (out-Kernel st) refl, weight_la
 
 pub weight_first : (first : Kernel) (rest : List Kernel) → weight_of_all (first ∷ rest) ≡ weight_of first + weight_of_all rest
 weight_first first rest = sum-map weight_of (first ∷ rest) ∙ sum_by-cons weight_of first rest ∙ ap (λ (n : ℕ). weight_of first + n) (sym (sum-map weight_of rest))
-
-pub opens_as : (t : Tail) (list other : List Instr) (end last : End) → list ≡ other → end ≡ last → IsOpen t list end → IsOpen t other last
-opens_as t list other end last same ends opens = subst (λ (is : List Instr). IsOpen t is last) same (subst (λ (e : End). IsOpen t list e) ends opens)
 
 -- statements of a sound chain, and those in their blocks
 pub first_sound : (first : Kernel) (rest body : List Kernel) → first ∷ rest ≡ body → AllSound body → IsSoundOne first
@@ -150,10 +131,6 @@ probes_few st x table a key n e u = let h = layer_of st (Kernel-F.Lookup x table
 pub nodes_some : (st : Kernel) (x table : ℕ) (a key : Word) (n : ℕ) → st ≡ k.Walk x table a key n → IsSoundOne st → 1 ≤ n
 unfolding IsSoundStatement
 nodes_some st x table a key n e u = let h = layer_of st (Kernel-F.Walk x table a key n) u (ap out-Kernel e ∙ k.outs-Walk x table a key n) in h.1
-
-pub search_grown : {A : Type 0} (r : Result A Memory) (old new : Builder) (count weight : ℕ) → new.hidden ≡ old.hidden → count ≤ 4 * weight → OnOk r (length old.blocks ≤ length new.blocks) → OnOk r (length new.blocks ≤ length old.blocks + count) → OnOk r (Grown old new weight)
-search_grown (Ok a) old new count weight same few more most = record { more = omega arith; cells = omega arith; longer = more; blocks = omega arith }
-search_grown (Err e) old new count weight same few more most = more
 
 true_false : true ≡ false → ⊥
 true_false e = cc

@@ -18,9 +18,6 @@ none_some e = cc
 some_one : {x y : ℕ} → Some x ≡ Some y → x ≡ y
 some_one e = cc
 
-false_true : {A : Type 0} → false ≡ true → A
-false_true e = absurd (let h : ⊥ = cc in h)
-
 -- there is one such block
 pub stops_one : (blocks : List Block) (k r s : ℕ) → Stops blocks k r → Stops blocks k s → r ≡ s
 stops_one blocks k r s a b =

@@ -34,17 +34,6 @@ module _ (f : Found) (n : ℕ) (few : n < 2 ^ 32) (numbers : f.numbers.items ≡
   size_first : length f.numbers.items ≡ n
   size_first = ap length numbers ∙ length-replicate n n
 
-  pub found_first : IsFound f
-  found_first = record {
-    few = omega (arith, size_first, few);
-    back = λ t lt seen.
-        let value : slice_index f.numbers.items t ≡ n = ap (λ (list : List ℕ). get_or list t 0) numbers ∙ get_or-replicate n t n 0 (omega (arith, size_first, lt)) in
-        absurd (omega (arith, value, seen, size_first));
-    within = λ k t h. absurd (omega (arith, slice_get_within f.order.items k t h, ap length order));
-    counted =
-        omega (arith, ap length order, size_first, ap (λ (m : ℕ). sum_by (unseen m) f.numbers.items) size_first ∙ ap (sum_by (unseen n)) numbers ∙ sum_by-replicate (unseen n) n n ∙ ap (λ (k : ℕ). n * k) (unseen_one n n (omega arith)));
-  }
-
   slots_first : (blocks : List Block) → length blocks ≡ n → slots_in blocks f ≡ all_slots blocks
   unfolding all_slots
   slots_first blocks e =

@@ -23,12 +23,12 @@ use Rattle.redn_graph.specs.declared.types.Graph.{Graph}
 use Rattle.redn_graph.specs.Statements.{is_plain, is_search}
 use Rattle.redn_graph.specs.Hidden.{hidden_cells}
 use Rattle.redn_graph.proofs.Repeats.{repeats_in_if, repeats_in_loop, repeats_in_repeat, none_in_break, none_in_reply, none_in_lookup}
-use Rattle.redn_graph.specs.Run.{GraphState, graph_step, graph_start, instr_does, end_does}
+use Rattle.redn_graph.specs.Run.{Mail, GraphState, graph_step, graph_start, instr_does, end_does}
 
 -- what n steps of chain 0 show, each on the tables that the one before left
-abbrev pub shown : List ℕ → Graph → ℕ → List (List ℕ) → GraphState → List Obs
-shown words g zero tables x = []
-shown words g (suc n) tables x = shown_then (graph_step 0 words tables x g).event (shown words g n (graph_step 0 words tables x g).tables (graph_step 0 words tables x g).state)
+abbrev pub shown : Mail → Graph → ℕ → List (List ℕ) → GraphState → List Obs
+shown mail g zero tables x = []
+shown mail g (suc n) tables x = shown_then (graph_step 0 mail tables x g).event (shown mail g n (graph_step 0 mail tables x g).tables (graph_step 0 mail tables x g).state)
 
 abbrev pub block : List Instr → End → Block
 block instrs end = record { instrs = instrs; end = end }
@@ -43,7 +43,7 @@ table words = record { bytes = flat_map (spelled 8) words; writable = true } ∷
 -- n steps of the blocks and m of the chain show this
 abbrev pub Beside : List TableInit → ℕ → List ℕ → List Kernel → List ℕ → Graph → ℕ → ℕ → List Obs → Type 0
 Beside tables args vars body words g n m all =
-    (shown words g n (source_start (one tables args vars body) (Some (flat_map (spelled 8) words) ∷ [])).tables (graph_start g vars) ≡ all)
+    (shown (record { words = words }) g n (source_start (one tables args vars body) (Some (flat_map (spelled 8) words) ∷ [])).tables (graph_start g vars) ≡ all)
     × (events (source_start (one tables args vars body) (Some (flat_map (spelled 8) words) ∷ [])) (replicate m 0) ≡ all)
 
 abbrev reply_of : ℕ → Obs

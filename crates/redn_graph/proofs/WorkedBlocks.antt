@@ -1,5 +1,5 @@
 -- What blocks cost, take and name, where they lead, and which of them can be reached, computed.
-use Rattle.std.proofs.Common.{◌≡◌, ℕ, zero, suc, ◌+◌, inl, inr, true, List, [], ◌∷◌, ◌++◌, subst, Some, None, refl, replicate, arith}
+use Rattle.std.proofs.Common.{◌≡◌, ℕ, zero, suc, ◌+◌, ◌≤◌, inl, inr, true, List, [], ◌∷◌, ◌++◌, subst, Some, None, refl, replicate, arith}
 use Rattle.std.proofs.lemmas.List.Elements.{All-cons, All-nil}
 use Rattle.redn_words.specs.declared.types.Obs.TheVariants as shows
 use Rattle.redn_kernel.specs.declared.types.Word.TheVariants as word
@@ -15,10 +15,11 @@ use Rattle.redn_graph.specs.declared.types.Instr.TheVariants as i
 use Rattle.redn_graph.specs.declared.types.End.TheVariants as e
 use Rattle.redn_graph.specs.declared.types.Block.{Block}
 use Rattle.redn_graph.specs.declared.types.Graph.{Graph}
-use Rattle.redn_graph.specs.Run.{graph_step, graph_start, step_cost, instr_does, end_does, instr_cost, end_cost}
+use Rattle.redn_graph.specs.Run.{Mail, graph_step, graph_start, step_cost, instr_does, end_does, instr_cost, end_cost}
 use Rattle.redn_graph.specs.Along.{state_along, cost_along}
 use Rattle.redn_graph.specs.Follows.{IsMatched, chain_start}
-use Rattle.redn_graph.specs.Code.{Leads}
+use Rattle.redn_kernel.specs.Costs.{statement_worth, search_worth}
+use Rattle.redn_graph.specs.Code.{Leads, Label, JumpsWithin, worth_at, nowhere, with_worth}
 use Rattle.redn_graph.specs.Fits.{Things, IsCell, FitsInstr, FitsEnd, FitsBlock, FitsGraph, things_of}
 use Rattle.redn_graph.specs.Growth.{IsRoomy}
 use Rattle.redn_graph.specs.Cores.{cell_move}
@@ -46,7 +47,11 @@ abbrev twice : Graph
 twice = graph (first ∷ body ∷ last ∷ [])
 
 abbrev chain : ChainInit
-chain = record { args = 0; vars = 0 ∷ []; body = s.Repeat 2 (s.Add 0 (word.Num 3) ∷ []) ∷ s.Reply (word.Var 0 ∷ []) ∷ [] }
+chain = record { serve = 1; args = 0; vars = 0 ∷ []; body = s.Repeat 2 (s.Add 0 (word.Num 3) ∷ []) ∷ s.Reply (word.Var 0 ∷ []) ∷ [] }
+
+-- a message without words
+abbrev no_words : Mail
+no_words = record { words = [] }
 
 -- slots of a block, and of all
 slots_of_the_body : block_slots body ≡ 32
@@ -58,11 +63,11 @@ unfolding all_slots block_slots
 slots_of_all = refl
 
 -- the whole run costs 16 + 28, twice 16 + 16 + 72, and 48
-cost_of_the_run : cost_along 0 [] twice (replicate 9 []) (graph_start twice (0 ∷ [])) ≡ 300
+cost_of_the_run : cost_along 0 no_words twice (replicate 9 []) (graph_start twice (0 ∷ [])) ≡ 300
 unfolding graph_step step_cost instr_does end_does instr_cost end_cost
 cost_of_the_run = refl
 
-the_run_ends : (state_along 0 [] twice (replicate 9 []) (graph_start twice (0 ∷ []))).ended ≡ true
+the_run_ends : (state_along 0 no_words twice (replicate 9 []) (graph_start twice (0 ∷ []))).ended ≡ true
 unfolding graph_step instr_does end_does
 the_run_ends = refl
 
@@ -70,8 +75,8 @@ the_run_ends = refl
 abbrev seen : ℕ → ℕ → Seen
 seen x v = record { tables = []; event = shows.Set 0 x v }
 
-what_is_seen : (graph_seen 0 [] twice (replicate 9 []) (graph_start twice (0 ∷ [])) ≡ seen 0 3 ∷ seen 0 6 ∷ (record { tables = []; event = shows.Reply 0 1 (6 ∷ 0 ∷ 0 ∷ 0 ∷ 0 ∷ 0 ∷ 0 ∷ 0 ∷ []) }) ∷ [])
-    × (chain_seen 0 (replicate 6 []) (chain_start chain []) ≡ graph_seen 0 [] twice (replicate 9 []) (graph_start twice (0 ∷ [])))
+what_is_seen : (graph_seen 0 no_words twice (replicate 9 []) (graph_start twice (0 ∷ [])) ≡ seen 0 3 ∷ seen 0 6 ∷ (record { tables = []; event = shows.Reply 0 1 (6 ∷ 0 ∷ 0 ∷ 0 ∷ 0 ∷ 0 ∷ 0 ∷ 0 ∷ []) }) ∷ [])
+    × (chain_seen 0 (replicate 6 []) (chain_start chain []) ≡ graph_seen 0 no_words twice (replicate 9 []) (graph_start twice (0 ∷ [])))
 unfolding graph_step instr_does end_does item_does statement_does out-Kernel carrier.out shown-the_row-Kernel-0 carrier.shown carrier.hidden
 what_is_seen = (refl, refl)
 
@@ -158,6 +163,27 @@ they_stop_at_the_reply = record { count = 2; leads = refl; works = refl }
 these_do_something : (idle_code (i.Move (Hidden 0) (Hidden 1) ∷ []) (e.Jump 1) ≡ None) × (idle_code (i.Move (Var 0) (Var 0) ∷ []) (e.Jump 1) ≡ None) × (idle_code puts_back (e.Test48 (Num 0) (Num 0) 1 1) ≡ None)
 these_do_something = (refl, refl, refl)
 
+-- a statement's block, one of a search, and none
+abbrev labels : List Label
+labels = with_worth statement_worth nowhere ∷ with_worth search_worth nowhere ∷ []
+
+worths_of_labels : (worth_at labels 0 ≡ 123) × (worth_at labels 1 ≡ 148) × (worth_at labels 2 ≡ 0)
+worths_of_labels = (refl, refl, refl)
+
+-- where a statement may begin, idle code leads to the first alone, and other code anywhere
+idle_code_leads_to_a_statement : JumpsWithin labels statement_worth puts_back (e.Jump 0)
+idle_code_leads_to_a_statement = inr (λ l is. subst (λ (k : ℕ). worth_at labels k ≤ statement_worth) (same_target is) (omega arith))
+  where
+    same_target : {k l : ℕ} → Some k ≡ Some l → k ≡ l
+    same_target is = cc
+
+and_to_no_search : JumpsWithin labels statement_worth puts_back (e.Jump 1) → ⊥
+and_to_no_search (inl none) = cc
+and_to_no_search (inr within) = let most : search_worth ≤ statement_worth = within 1 refl in omega (arith, most)
+
+other_code_may : JumpsWithin labels statement_worth (i.Set (Hidden 0) 0 ∷ []) (e.Jump 1)
+other_code_may = inl refl
+
 none_of_twice_is_idle : NoneIdle twice.blocks
 none_of_twice_is_idle =
     let does : Block → Type 0 = λ b. idle_code b.instrs b.end ≡ None in
@@ -172,7 +198,8 @@ slots_still_to_come = refl
 abbrev replies_1 : Graph
 replies_1 = graph (block [] (e.Reply (Num 1 ∷ [])) ∷ [])
 
-a_reply_is_matched : IsMatched 0 [] replies_1 (λ x. let t : _ = record (chain_start (record { args = 0; vars = []; body = s.Reply (word.Num 1 ∷ []) ∷ [] }) []) { vars = x.cells.vars; ended = x.ended } in t) (λ x. 48) [] (graph_start replies_1 [])
+a_reply_is_matched : IsMatched 0 no_words replies_1 (λ x. let t : _ = record (chain_start (record { serve = 1; args = 0; vars = []; body = s.Reply (word.Num 1 ∷ []) ∷ [] }) []) { vars = x.cells.vars; ended = x.ended } in t) (λ x. 48) []
+    (graph_start replies_1 [])
 unfolding graph_step step_cost end_does end_cost item_does statement_does out-Kernel carrier.out shown-the_row-Kernel-0 carrier.shown carrier.hidden
 a_reply_is_matched = record { count = 1; steps = (refl, inr (refl, refl)); within = omega arith; paid = omega arith }
 

@@ -5,13 +5,14 @@ use Rattle.redn_kernel.specs.declared.types.Cell.TheVariants as cell
 use Rattle.redn_kernel.specs.declared.types.Core.{Core, every-Core}
 use Rattle.redn_kernel.specs.declared.types.Core.TheOpen.{Core-F}
 use Rattle.redn_kernel.specs.CoreRun.{with_hidden}
+use Rattle.redn_kernel.specs.Costs.{search_worth, jump_worth}
 use Rattle.redn_kernel.specs.Composes.{Remains, Point, DoesHere, branch, opens}
 use Rattle.redn_graph.specs.declared.types.Instr.{Instr}
 use Rattle.redn_graph.specs.declared.types.Instr.TheVariants.{Set, Move}
 use Rattle.redn_graph.specs.declared.types.Block.{Block}
 use Rattle.redn_graph.specs.declared.build.Tail.{Tail}
 use Rattle.redn_graph.specs.declared.build.Tail.TheVariants as tail
-use Rattle.redn_graph.specs.Code.{Meaning, Leads, InstrRuns, Runs, Extends, Means, Compiled, meaning_at, jump_worth}
+use Rattle.redn_graph.specs.Code.{Meaning, Leads, Label, InstrRuns, Serves, Extends, Means, Compiled, meaning_at, worth_at}
 use Rattle.redn_graph.specs.Idle.{same_hidden}
 
 -- a cell is moved to a variable or hidden cell
@@ -45,10 +46,10 @@ left_then r m h = r h ++ m h
 abbrev pub IgnoresSearches : Meaning → Type 0
 IgnoresSearches m = (h : ℕ → ℕ) (k v : ℕ) → k < 2 → m (with_hidden h k v) ≡ m h
 
--- what follows does what the items say, where so much may be spent
-abbrev pub TailDoes : List Meaning → ℕ → Tail → Meaning → Type 0
-TailDoes all worth (tail.To l) m = (h : ℕ → ℕ) → Leads 0 (m h) (meaning_at all l h)
-TailDoes all worth (tail.Open instrs end) m = Runs all end (reverse instrs.items) m worth
+-- what follows does what the items say, where so much may be spent. It leads to blocks of the search or behind it
+abbrev pub TailDoes : List Label → ℕ → Tail → Meaning → Type 0
+TailDoes all worth (tail.To l) m = (worth_at all l ≤ search_worth) × ((h : ℕ → ℕ) → Leads 0 (m h) (meaning_at all l h))
+TailDoes all worth (tail.Open instrs end) m = Serves all search_worth end (reverse instrs.items) m worth
 
 abbrev pub PaysJump : ℕ → Tail → Type 0
 PaysJump worth (tail.To l) = jump_worth ≤ worth
@@ -57,26 +58,29 @@ PaysJump worth (tail.Open instrs end) = Unit {0}
 -- an instruction stands before what follows
 abbrev pub Continues : Instr → Tail → Tail → Type 0
 Continues instr before after =
-    (all : List Meaning) (m next : Meaning) (worth left : ℕ) → InstrRuns instr m next worth left → PaysJump left before → TailDoes all left before next → TailDoes all worth after m
+    (all : List Label) (m next : Meaning) (worth left : ℕ) → InstrRuns instr m next worth left → PaysJump left before → TailDoes all left before next →
+    TailDoes all worth after m
 
 -- blocks were added, and code before what follows does what is left at a point
-pub record CoresDo (old new : List Block) (exit : ℕ) (some : List Meaning) (p : Point) (m : Meaning) (after : Tail) : Type 0 where
-  pub code : Compiled old new some 0 (tail.To exit) (left_then p.out m)
-  pub does : (all : List Meaning) → Extends code.table all → TailDoes all p.worth after (left_then p.here m)
+pub record CoresDo (old new : List Block) (exit : ℕ) (some : List Label) (p : Point) (m : Meaning) (after : Tail) : Type 0 where
+  pub code : Compiled old new some 0 search_worth (tail.To exit) (left_then p.out m)
+  pub does : (all : List Label) → Extends code.table all → TailDoes all p.worth after (left_then p.here m)
 
 -- whatever the point and what follows mean. A `Leave` leads to the block of this number
 abbrev pub CoresCompile : List Block → List Block → ℕ → List Core → Tail → Tail → Type 0
 CoresCompile old new exit cores before after =
-    (n : ℕ) (p : Point) (some : List Meaning) (m : Meaning) → DoesHere n p → p.cores ≡ cores → IgnoresSearches m → length some ≡ length old →
-    Means some 0 before (left_then p.behind m) → Means some 0 (tail.To exit) (left_then p.out m) → CoresDo old new exit some p m after
+    (n : ℕ) (p : Point) (some : List Label) (m : Meaning) → DoesHere n p → p.cores ≡ cores → IgnoresSearches m → length some ≡ length old →
+    Means some 0 search_worth before (left_then p.behind m) → Means some 0 search_worth (tail.To exit) (left_then p.out m) → CoresDo old new exit some p m after
 
 -- two branches lead to blocks of these numbers
-pub record ForksDo (old new : List Block) (exit : ℕ) (some : List Meaning) (out if_met if_unmet : Remains) (m : Meaning) (yes_block no_block : ℕ) : Type 0 where
-  pub code : Compiled old new some 0 (tail.To exit) (left_then out m)
-  pub met : (all : List Meaning) → Extends code.table all → (h : ℕ → ℕ) → Leads 0 (left_then if_met m h) (meaning_at all yes_block h)
-  pub unmet : (all : List Meaning) → Extends code.table all → (h : ℕ → ℕ) → Leads 0 (left_then if_unmet m h) (meaning_at all no_block h)
+pub record ForksDo (old new : List Block) (exit : ℕ) (some : List Label) (out if_met if_unmet : Remains) (m : Meaning) (yes_block no_block : ℕ) : Type 0 where
+  pub code : Compiled old new some 0 search_worth (tail.To exit) (left_then out m)
+  pub met : Means code.table 0 search_worth (tail.To yes_block) (left_then if_met m)
+  pub unmet : Means code.table 0 search_worth (tail.To no_block) (left_then if_unmet m)
 
 abbrev pub Forks : List Block → List Block → ℕ → List Core → List Core → Tail → ℕ → ℕ → Type 0
 Forks old new exit met unmet before yes_block no_block =
-    (n : ℕ) (p : Point) (if_met if_unmet done : Remains) (some : List Meaning) (m : Meaning) → DoesHere n (branch p met if_met done) → DoesHere n (branch p unmet if_unmet done) → IgnoresSearches m → length some ≡ length old →
-    Means some 0 before (left_then done m) → Means some 0 (tail.To exit) (left_then p.out m) → ForksDo old new exit some p.out if_met if_unmet m yes_block no_block
+    (n : ℕ) (p : Point) (if_met if_unmet done : Remains) (some : List Label) (m : Meaning) → DoesHere n (branch p met if_met done) →
+    DoesHere n (branch p unmet if_unmet done) → IgnoresSearches m → length some ≡ length old →
+    Means some 0 search_worth before (left_then done m) → Means some 0 search_worth (tail.To exit) (left_then p.out m) →
+    ForksDo old new exit some p.out if_met if_unmet m yes_block no_block

@@ -1,5 +1,6 @@
 -- Blocks that were found, and their new numbers.
-use Rattle.std.specs.Prelude.{◌≡◌, ℕ, ◌+◌, ◌<◌, ◌≤◌, ◌^◌, nat_lt, false, if◌then◌else◌, List, [], ◌∷◌, length, sum_by, Option, Some, None, slice_get, slice_index, slice_index_or}
+use Rattle.std.specs.Prelude.{◌≡◌, ℕ, ◌+◌, ◌<◌, ◌≤◌, ◌^◌, nat_lt, false, if◌then◌else◌, List, [], ◌∷◌, length, sum_by, Option, Some, None, slice_get}
+use Rattle.std.specs.Prelude.{slice_index, slice_index_or}
 use Rattle.redn_kernel.specs.declared.types.ChainInit.{ChainInit}
 use Rattle.redn_kernel.specs.CoreRun.{Cells}
 use Rattle.redn_graph.specs.declared.types.End.{End}
@@ -9,6 +10,7 @@ use Rattle.redn_graph.specs.declared.types.Graph.{Graph}
 use Rattle.redn_graph.specs.Run.{GraphState}
 use Rattle.redn_graph.specs.Follows.{Follows}
 use Rattle.redn_graph.specs.Slots.{block_slots, all_slots}
+use Rattle.redn_graph.specs.Idle.{idle_at}
 use Rattle.redn_graph.specs.Reached.{CanGoTo, renumbered, Was, EachReached}
 
 -- a block that wasn't found has the number of all blocks
@@ -17,7 +19,8 @@ unseen n v = if nat_lt v n then 0 else 1
 
 pub record IsFound (f : Found) : Type 0 where
   pub few : length f.numbers.items < 2 ^ 32
-  pub back : (t : ℕ) → t < length f.numbers.items → slice_index f.numbers.items t < length f.numbers.items → slice_get f.order.items (slice_index f.numbers.items t) ≡ Some t
+  pub back : (t : ℕ) → t < length f.numbers.items → slice_index f.numbers.items t < length f.numbers.items →
+      slice_get f.order.items (slice_index f.numbers.items t) ≡ Some t
   pub within : (k t : ℕ) → slice_get f.order.items k ≡ Some t → t < length f.numbers.items
   pub counted : length f.order.items + sum_by (unseen (length f.numbers.items)) f.numbers.items ≡ length f.numbers.items
 
@@ -84,7 +87,7 @@ pub record Kept (g h : Graph) : Type 0 where
 abbrev pub at_block : ℕ → Cells → GraphState
 at_block l s = record { block = l; place = 0; taking = false; cells = s; ended = false }
 
--- blocks follow a chain, and could be entered at each of them
-pub record FollowsAnywhere (chain : ChainInit) (g : Graph) : Type 0 where
+-- blocks follow a chain, and one that does nothing leads where no more may be spent than at its own start
+pub record FollowsIdly (chain : ChainInit) (g : Graph) : Type 0 where
   pub follows : Follows chain g
-  pub affords : (l : ℕ) (s : Cells) → 5 + follows.worth (at_block l s) ≤ 160
+  pub idly : (k l : ℕ) (s : Cells) → idle_at g.blocks k ≡ Some l → follows.worth (at_block l s) ≤ follows.worth (at_block k s)

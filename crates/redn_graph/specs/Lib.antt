@@ -15,3 +15,4 @@ pub mod Onward
 pub mod Cores
 pub mod CoreSizes
 pub mod Hidden
+pub mod Listed

@@ -3,7 +3,7 @@ use Rattle.std.specs.Prelude.{ℕ, suc, ◌+◌, Bool, true, false, ◌==◌, if
 use Rattle.redn_words.specs.declared.types.Obs.{Obs}
 use Rattle.redn_words.specs.declared.types.Obs.TheVariants as shows
 use Rattle.redn_kernel.specs.declared.types.Cell.{Cell}
-use Rattle.redn_kernel.specs.declared.types.Cell.TheVariants as cell
+use Rattle.redn_kernel.specs.Costs.{move_cost, add_cost, load_cost, store_cost, jump_cost, test_cost, probe_cost, reply_cost}
 use Rattle.redn_kernel.specs.Source.{wrapped, same_low, has_word, word_in, with_word_in, eight}
 use Rattle.redn_kernel.specs.CoreRun.{Cells, held, put, shown_put, shown_load}
 use Rattle.redn_graph.specs.declared.types.Instr.{Instr}
@@ -19,6 +19,14 @@ pub record GraphState : Type 0 where
   pub taking : Bool  -- a probe has found its key
   pub cells : Cells
   pub ended : Bool
+
+-- what a chain is sent: one message
+pub record Mail : Type 0 where
+  pub words : List ℕ
+
+-- the words of the message in hand at a state
+abbrev pub in_hand : Mail → GraphState → List ℕ
+in_hand mail x = mail.words
 
 -- what a step leaves and shows
 pub record GraphTurn : Type 0 where
@@ -40,7 +48,7 @@ pub record Effect : Type 0 where
   pub way : Way
   pub event : Obs
 
--- chain c, the words of its message, the tables, and what the cells hold
+-- chain c, the words of the message in hand, the tables, and what the cells hold
 module _ (c : ℕ) (words : List ℕ) (tables : List (List ℕ)) (s : Cells) where
   abbrev pub holds : Cell → ℕ
   holds a = held words s a
@@ -101,38 +109,35 @@ graph_turn x e = record { tables = e.tables; state = state_on x e.cells e.way; e
 abbrev pub stays : List (List ℕ) → GraphState → GraphTurn
 stays tables x = record { tables = tables; state = x; event = shows.Nothing }
 
-module _ (c : ℕ) (words : List ℕ) (tables : List (List ℕ)) (x : GraphState) where
+module _ (c : ℕ) (mail : Mail) (tables : List (List ℕ)) (x : GraphState) where
   abbrev pub instr_or_end : Option Instr → End → Effect
-  instr_or_end (Some i) end = instr_does c words tables x.cells i
-  instr_or_end None end = end_does c words tables x.cells x.taking end
+  instr_or_end (Some i) end = instr_does c (in_hand mail x) tables x.cells i
+  instr_or_end None end = end_does c (in_hand mail x) tables x.cells x.taking end
 
   abbrev pub block_turn : Option Block → GraphTurn
   block_turn None = stays tables x
   block_turn (Some b) = graph_turn x (instr_or_end (slice_get b.instrs x.place) b.end)
 
-  -- a step of a chain with a message. An ended chain changes nothing
+  -- a step of a chain with its mail. An ended chain changes nothing
   unfoldable pub graph_step : Graph → GraphTurn
   graph_step g = if x.ended then stays tables x else block_turn (slice_get g.blocks x.block)
 
--- useful actions, by the table of the compiled form
-abbrev pub add_cost : Cell → ℕ
-add_cost (cell.Num n) = 16
-add_cost _ = 32
-
+-- what the compiled form of an instruction costs
 unfoldable pub instr_cost : Instr → ℕ
-instr_cost (Set to v) = 16
-instr_cost (Move to from) = 16
+instr_cost (Set to v) = move_cost
+instr_cost (Move to from) = move_cost
 instr_cost (Add to by) = add_cost by
-instr_cost (Load to table offset) = 32
-instr_cost (Store table offset from) = 32
+instr_cost (Load to table offset) = load_cost
+instr_cost (Store table offset from) = store_cost
 
+-- and of an end. Each reply counts as one of eight words
 unfoldable pub end_cost : Bool → End → ℕ
-end_cost taking (Jump to) = 28
-end_cost taking (Test48 left right met unmet) = 72
-end_cost taking (Test64 left right met unmet) = 100
-end_cost false (Probe to table offset key hit miss) = 132
+end_cost taking (Jump to) = jump_cost
+end_cost taking (Test48 left right met unmet) = test_cost false
+end_cost taking (Test64 left right met unmet) = test_cost true
+end_cost false (Probe to table offset key hit miss) = probe_cost
 end_cost true (Probe to table offset key hit miss) = 0
-end_cost taking (Reply cells) = 48
+end_cost taking (Reply cells) = reply_cost 8
 
 abbrev pub instr_or_end_cost : GraphState → Option Instr → End → ℕ
 instr_or_end_cost x (Some i) end = instr_cost i

@@ -2,9 +2,10 @@
 use Rattle.std.specs.Prelude.{Bool, true, false, ◌∷◌}
 use Rattle.redn_kernel.specs.declared.types.Kernel.{Kernel, out-Kernel}
 use Rattle.redn_kernel.specs.declared.types.Kernel.TheOpen.{Kernel-F}
+use Rattle.redn_kernel.specs.Costs.{statement_worth, jump_worth}
 use Rattle.redn_kernel.specs.Source.{Do}
 use Rattle.redn_graph.specs.declared.types.Instr.{Instr}
-use Rattle.redn_graph.specs.Code.{Meaning, InstrRuns, block_worth, jump_worth}
+use Rattle.redn_graph.specs.Code.{Meaning, InstrRuns}
 
 abbrev pub acts_once : {A : Type 0} → Kernel-F A → Bool
 acts_once (Kernel-F.Move to from) = true
@@ -28,4 +29,4 @@ is_search statement = searches (out-Kernel statement)
 
 -- an instruction does what a statement does, whatever follows
 abbrev pub DoesStatement : Kernel → Instr → Type 0
-DoesStatement statement instr = (m : Meaning) → InstrRuns instr (λ h. Do statement ∷ m h) m block_worth jump_worth
+DoesStatement statement instr = (m : Meaning) → InstrRuns instr (λ h. Do statement ∷ m h) m statement_worth jump_worth

@@ -13,6 +13,7 @@ ghost use Rattle.redn_graph.specs.Fits.{Things, IsCell, FitsInstr, FitsBlock, Fi
 ghost use Rattle.redn_graph.specs.Idle.{puts_back, idle_code, idle_at};
 ghost use Rattle.redn_graph.specs.Onward.{Works, tail_idle, LeadsOn};
 ghost use Rattle.redn_graph.specs.Hidden.{repeats_in, repeats_in_all};
+ghost use Rattle.redn_graph.specs.Listed.{Listed};
 ghost use Rattle.redn_graph.specs.Growth.{IsRoomy, AllSound, IsSoundOne, Grown, Bound, IsFirst};
 
 use crate::types::{Block, End, Instr};
@@ -269,7 +270,8 @@ impl Builder {
         ensures blocks { OnOk result (length self.new.blocks ≤ length self.old.blocks + 1) }
         ensures more { OnOk result (length self.old.blocks ≤ length self.new.blocks) }
         ensures hidden { self.new.hidden ≡ self.old.hidden }
-        ensures fits { IfOk result (λ l. (n : Things) → length self.new.blocks ≤ n.blocks → FitsTail n tail → Fitted n self.old.blocks self.new.blocks × (l < n.blocks)) }
+        ensures fits { IfOk result
+            (λ l. (n : Things) → length self.new.blocks ≤ n.blocks → FitsTail n tail → Fitted n self.old.blocks self.new.blocks × (l < n.blocks)) }
         ensures small { OnOk result ((most : ℕ) → tail_size tail ≤ most → AreSmall most self.old.blocks → AreSmall most self.new.blocks) }
         ensures leads { IfOk result (λ l. (exit : ℕ) → LeadsOn self.old.blocks self.new.blocks exit tail (Tail.To l) true false) }
     {
@@ -417,13 +419,7 @@ impl Builder {
         requires room { IsRoomy self.old (weight_of statement.now) }
         requires sound { IsSoundOne statement.now }
         requires looks { is_search statement.now ≡ true }
-        ensures compiles { IfOk result (λ after. (hidden exit : ℕ) → Compiles self.old.blocks self.new.blocks hidden exit (statement.now ∷ []) tail after) }
-        ensures slots { IfOk result (λ after. SlotsWithin self.old.blocks self.new.blocks tail after (37 * weight_of statement.now)) }
-        ensures grown { OnOk result (Grown self.old self.new (weight_of statement.now)) }
-        ensures hidden { OnOk result (self.new.hidden ≡ self.old.hidden) }
-        ensures fits { IfOk result (λ after. (n : Things) → IsWithin n self.new → IsWell n statement.now → FitsTail n tail → Fitted n self.old.blocks self.new.blocks × FitsTail n after) }
-        ensures size { IfOk result (λ after. Sized self.old.blocks self.new.blocks tail after (weight_of statement.now)) }
-        ensures leads { IfOk result (λ after. (exit : ℕ) → LeadsOn self.old.blocks self.new.blocks exit tail after false false) }
+        ensures { IfOk result (λ after. (exit : ℕ) → Listed self.old self.new exit tail (statement.now ∷ []) after) }
     {
         let body = search_cores(alloc, statement)?;
         let next = self.label(tail)?;
@@ -441,13 +437,7 @@ impl Builder {
     ) -> Result<Tail, Memory>
         requires room { IsRoomy self.old (weight_of_all body.now) }
         requires sound { AllSound body.now }
-        ensures compiles { IfOk result (λ after. Compiles self.old.blocks self.new.blocks self.old.hidden exit body.now tail after) }
-        ensures slots { IfOk result (λ after. SlotsWithin self.old.blocks self.new.blocks tail after (37 * weight_of_all body.now)) }
-        ensures grown { OnOk result (Grown self.old self.new (weight_of_all body.now)) }
-        ensures hidden { OnOk result (self.new.hidden ≡ self.old.hidden + repeats_in_all body.now) }
-        ensures fits { IfOk result (λ after. (n : Things) → IsWithin n self.new → exit < n.blocks → AllWell n body.now → FitsTail n tail → Fitted n self.old.blocks self.new.blocks × FitsTail n after) }
-        ensures size { IfOk result (λ after. Sized self.old.blocks self.new.blocks tail after (weight_of_all body.now)) }
-        ensures leads { IfOk result (λ after. exit < length self.old.blocks → LeadsOn self.old.blocks self.new.blocks exit tail after (is_idle_body body.now) (breaks_idly body.now)) }
+        ensures { IfOk result (λ after. Listed self.old self.new exit tail body.now after) }
     {
         let mut after = tail;
         for i in (0..body.len()).rev() {
@@ -466,13 +456,7 @@ impl Builder {
     ) -> Result<Tail, Memory>
         requires room { IsRoomy self.old (weight_of statement.now) }
         requires sound { IsSoundOne statement.now }
-        ensures compiles { IfOk result (λ after. Compiles self.old.blocks self.new.blocks self.old.hidden exit (statement.now ∷ []) tail after) }
-        ensures slots { IfOk result (λ after. SlotsWithin self.old.blocks self.new.blocks tail after (37 * weight_of statement.now)) }
-        ensures grown { OnOk result (Grown self.old self.new (weight_of statement.now)) }
-        ensures hidden { OnOk result (self.new.hidden ≡ self.old.hidden + repeats_in statement.now) }
-        ensures fits { IfOk result (λ after. (n : Things) → IsWithin n self.new → exit < n.blocks → IsWell n statement.now → FitsTail n tail → Fitted n self.old.blocks self.new.blocks × FitsTail n after) }
-        ensures size { IfOk result (λ after. Sized self.old.blocks self.new.blocks tail after (weight_of statement.now)) }
-        ensures leads { IfOk result (λ after. exit < length self.old.blocks → LeadsOn self.old.blocks self.new.blocks exit tail after (idles_of statement.now).is_idle (idles_of statement.now).is_break) }
+        ensures { IfOk result (λ after. Listed self.old self.new exit tail (statement.now ∷ []) after) }
     {
         match statement {
             Kernel::If {
@@ -519,13 +503,7 @@ impl Builder {
         requires room { IsRoomy self.old (1 + weight_of_all yes.now + weight_of_all no.now) }
         requires sound { AllSound yes.now }
         requires sound_too { AllSound no.now }
-        ensures compiles { IfOk result (λ after. Compiles self.old.blocks self.new.blocks self.old.hidden exit (Kernel.If wide left right yes.now no.now ∷ []) tail after) }
-        ensures slots { IfOk result (λ after. SlotsWithin self.old.blocks self.new.blocks tail after (37 * (1 + weight_of_all yes.now + weight_of_all no.now))) }
-        ensures grown { OnOk result (Grown self.old self.new (1 + weight_of_all yes.now + weight_of_all no.now)) }
-        ensures hidden { OnOk result (self.new.hidden ≡ self.old.hidden + (repeats_in_all yes.now + repeats_in_all no.now)) }
-        ensures fits { IfOk result (λ after. (n : Things) → IsWithin n self.new → exit < n.blocks → IsCell n (cell_of left) → IsCell n (cell_of right) → AllWell n yes.now → AllWell n no.now → FitsTail n tail → Fitted n self.old.blocks self.new.blocks × FitsTail n after) }
-        ensures size { IfOk result (λ after. Sized self.old.blocks self.new.blocks tail after (1 + weight_of_all yes.now + weight_of_all no.now)) }
-        ensures leads { IfOk result (λ after. exit < length self.old.blocks → LeadsOn self.old.blocks self.new.blocks exit tail after false false) }
+        ensures { IfOk result (λ after. Listed self.old self.new exit tail (Kernel.If wide left right yes.now no.now ∷ []) after) }
     {
         let next = self.label(tail)?;
         let met = self.list(alloc, yes, Tail::To(next), exit)?;
@@ -539,13 +517,7 @@ impl Builder {
     fn endless(&mut self, alloc: Global, body: &[Kernel], tail: Tail) -> Result<Tail, Memory>
         requires room { IsRoomy self.old (1 + weight_of_all body.now) }
         requires sound { AllSound body.now }
-        ensures compiles { IfOk result (λ after. (exit : ℕ) → Compiles self.old.blocks self.new.blocks self.old.hidden exit (Kernel.Loop body.now ∷ []) tail after) }
-        ensures slots { IfOk result (λ after. SlotsWithin self.old.blocks self.new.blocks tail after (37 * (1 + weight_of_all body.now))) }
-        ensures grown { OnOk result (Grown self.old self.new (1 + weight_of_all body.now)) }
-        ensures hidden { OnOk result (self.new.hidden ≡ self.old.hidden + repeats_in_all body.now) }
-        ensures fits { IfOk result (λ after. (n : Things) → IsWithin n self.new → AllWell n body.now → FitsTail n tail → Fitted n self.old.blocks self.new.blocks × FitsTail n after) }
-        ensures size { IfOk result (λ after. Sized self.old.blocks self.new.blocks tail after (1 + weight_of_all body.now)) }
-        ensures leads { IfOk result (λ after. (exit : ℕ) → is_idle_body body.now ≡ false → LeadsOn self.old.blocks self.new.blocks exit tail after (breaks_idly body.now) false) }
+        ensures { IfOk result (λ after. (exit : ℕ) → Listed self.old self.new exit tail (Kernel.Loop body.now ∷ []) after) }
     {
         let out = self.label(tail)?;
         let head = self.reserve(alloc)?;
@@ -564,13 +536,7 @@ impl Builder {
     ) -> Result<Tail, Memory>
         requires room { IsRoomy self.old (2 + weight_of_all body.now) }
         requires sound { AllSound body.now }
-        ensures compiles { IfOk result (λ after. (exit : ℕ) → Compiles self.old.blocks self.new.blocks self.old.hidden exit (Kernel.Repeat count body.now ∷ []) tail after) }
-        ensures slots { IfOk result (λ after. SlotsWithin self.old.blocks self.new.blocks tail after (37 * (2 + weight_of_all body.now))) }
-        ensures grown { OnOk result (Grown self.old self.new (2 + weight_of_all body.now)) }
-        ensures hidden { OnOk result (1 ≤ count → self.new.hidden ≡ self.old.hidden + (1 + repeats_in_all body.now)) }
-        ensures fits { IfOk result (λ after. (n : Things) → IsWithin n self.new → AllWell n body.now → FitsTail n tail → Fitted n self.old.blocks self.new.blocks × FitsTail n after) }
-        ensures size { IfOk result (λ after. Sized self.old.blocks self.new.blocks tail after (2 + weight_of_all body.now)) }
-        ensures leads { IfOk result (λ after. (exit : ℕ) → 1 ≤ count → LeadsOn self.old.blocks self.new.blocks exit tail after false false) }
+        ensures { IfOk result (λ after. (exit : ℕ) → Listed self.old self.new exit tail (Kernel.Repeat count body.now ∷ []) after) }
     {
         let out = self.label(tail)?;
         if count == 0 {

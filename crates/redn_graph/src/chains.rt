@@ -10,7 +10,7 @@ ghost use Rattle.redn_graph.specs.Fits.{Things, FitsTail, FitsGraph, FitsChain};
 ghost use Rattle.redn_graph.specs.Growth.{AllSound};
 ghost use Rattle.redn_graph.specs.Follows.{Follows};
 ghost use Rattle.redn_graph.specs.Hidden.{hidden_cells};
-ghost use Rattle.redn_graph.specs.Finding.{FollowsAnywhere};
+ghost use Rattle.redn_graph.specs.Finding.{FollowsIdly};
 ghost use Rattle.redn_graph.specs.Idle.{NoneIdle};
 ghost use Rattle.redn_graph.specs.Onward.{AllStop, IsAmong};
 ghost use Rattle.redn_graph.specs.Reached.{EachReached};
@@ -49,7 +49,7 @@ fn chain_graph(alloc: Global, chain: &ChainInit) -> Result<Graph, Memory>
     requires light { weight_of_all chain.now.body ≤ 4096 }
     requires some { 1 ≤ weight_of_all chain.now.body }
     requires sound { AllSound chain.now.body }
-    ensures follows { IfOk result (λ g. FollowsAnywhere chain.now g) }
+    ensures follows { IfOk result (λ g. FollowsIdly chain.now g) }
     ensures few { IfOk result (λ g. length g.blocks < 2 ^ 32) }
     ensures slots { IfOk result (λ g. all_slots g.blocks ≤ 64 * chain_weight chain.now) }
     ensures fits { IfOk result (λ g. (tables : List TableInit) → FitsChain tables chain.now g) }

@@ -1,5 +1,5 @@
 -- Core statements that do a statement point by point are that statement.
-use Rattle.std.proofs.Common.{◌≡◌, ◌≢◌, ℕ, zero, suc, ◌+◌, ◌<◌, ◌≤◌, ◌⊎◌, inl, inr, Bool, true, false, if◌then◌else◌, List, [], ◌∷◌, ◌++◌, length, append-nil, refl, sym, ap, ◌∙◌, subst, arith}
+use Rattle.std.proofs.Common.{◌≡◌, ℕ, zero, suc, ◌<◌, ◌≤◌, ◌⊎◌, inl, inr, Bool, true, false, if◌then◌else◌, List, [], ◌∷◌, ◌++◌, length, append-nil, refl, sym, ap, ◌∙◌, subst, arith}
 use Rattle.redn_words.specs.declared.types.Obs.{Obs}
 use Rattle.redn_words.specs.declared.types.Obs.TheVariants as shows
 use Rattle.redn_kernel.specs.declared.types.Kernel.{Kernel}
@@ -8,16 +8,16 @@ use Rattle.redn_kernel.specs.declared.types.Core.TheOpen.{Core-F}
 use Rattle.redn_kernel.specs.Source as source
 use Rattle.redn_kernel.specs.Source.{ChainState, Turn, Item, TakeArgument, first_does, item_does, chain_runs, has_word}
 use Rattle.redn_kernel.specs.Steps.{Steps, unchanged, silently}
-use Rattle.redn_kernel.specs.CoreRun as run
 use Rattle.redn_kernel.specs.CoreRun.{Cells, CoreItem, CoreState, CoreTurn, Do, Again, Found, do_cores, core_does, core_item_does, first_core_does, core_step, cores_after}
-use Rattle.redn_kernel.specs.Feeds.{Feed, seen_then, chain_turn, chain_after, chain_seen, cores_along, cores_seen}
-use Rattle.redn_kernel.specs.Becomes.{IsLike, Becomes, chain_at, cores_at}
-use Rattle.redn_kernel.specs.Composes.{Composes, opens}
+use Rattle.redn_kernel.specs.Feeds.{Feed, seen_then, chain_after, chain_seen, cores_along, cores_seen}
+use Rattle.redn_kernel.specs.Becomes.{Becomes, chain_at, cores_at}
+use Rattle.redn_kernel.specs.Costs.{statement_worth}
+use Rattle.redn_kernel.specs.Composes.{Composes}
 use Rattle.redn_kernel.proofs.CoreRuns.{Reaches, Reached, steps_reach, reach_then}
-use Rattle.redn_kernel.proofs.Quiet.{is_nothing, quiet_run, quiet_done, later_vars, later_ended, later_done, running_turn, seen_step, after_step, first_content}
-use Rattle.redn_kernel.proofs.Feeds.{bool_or, zero_or, ended_stops, fed, stopped, GoesBehind, ShowsNoMore, behind}
+use Rattle.redn_kernel.proofs.Quiet.{quiet_run, quiet_done, later_vars, later_ended, later_done, first_content}
+use Rattle.redn_kernel.proofs.Feeds.{zero_or, fed, stopped, GoesBehind, behind}
 use Rattle.redn_kernel.proofs.Places.{Place, Done, At, Takes, Turns, items, left, Stands, IsBusy, rank}
-use Rattle.redn_kernel.proofs.Moves.{Moves, moves}
+use Rattle.redn_kernel.proofs.Moves.{moves}
 
 -- nothing before one item
 append_some : {A : Type 0} (list : List Item) (item : Item) → list ++ (item ∷ []) ≡ [] → A
@@ -327,7 +327,7 @@ module _ (c : ℕ) (words : List ℕ) where
 module _ (statement : Kernel) (first : Core) (rest : List Core) (co : Composes statement (first ∷ rest)) (c : ℕ) (words : List ℕ) (s : Cells) where
   abbrev start : Standing c words
   start = record {
-    place = At co.depth first rest (λ h. source.Do statement ∷ []) (λ h. []) (λ h. []) 148 [];
+    place = At co.depth first rest (λ h. source.Do statement ∷ []) (λ h. []) (λ h. []) statement_worth [];
     stands = (co.does, inl co.begins, (λ h. refl, λ h. refl), tt);
     cells = s;
     ended = false;

@@ -8,6 +8,7 @@ use Rattle.redn_kernel.specs.Steps.{unchanged}
 use Rattle.redn_kernel.specs.CoreRun as run
 use Rattle.redn_kernel.specs.CoreRun.{Cells, CoreTurn, put, with_hidden}
 use Rattle.redn_kernel.specs.Becomes.{chain_at, cores_at}
+use Rattle.redn_kernel.specs.Costs.{step_worth}
 use Rattle.redn_kernel.specs.Composes.{Remains, Pays}
 use Rattle.redn_kernel.proofs.CoreRuns.{one_step}
 
@@ -21,7 +22,8 @@ module _ (c : ℕ) (words : List ℕ) (tables : List (List ℕ)) (s : Cells) (mo
   chain_from from = chain_at words s false (from s.hidden ++ more)
 
   -- one step of the chain
-  pub pays_one : {from to : Remains} {turn : CoreTurn} {cost worth left : ℕ} → first_does c tables (chain_from from) (from s.hidden ++ more) ≡ turn_of from to turn → cost + left ≤ worth + 160 → Pays c words tables s more from to turn cost worth left
+  pub pays_one : {from to : Remains} {turn : CoreTurn} {cost worth left : ℕ} → first_does c tables (chain_from from) (from s.hidden ++ more) ≡ turn_of from to turn → cost + left ≤ worth + step_worth →
+      Pays c words tables s more from to turn cost worth left
   pays_one {from = from} {to = to} {turn = turn} e le = record { count = 1; steps = one_step c words tables s (from s.hidden ++ more) (turn_of from to turn) e; paid = omega (arith, le) }
 
   -- no step of the chain
@@ -29,7 +31,7 @@ module _ (c : ℕ) (words : List ℕ) (tables : List (List ℕ)) (s : Cells) (mo
   pays_none e le = record { count = 0; steps = e; paid = omega (arith, le) }
 
   -- a key is looked at
-  module _ (table o key : ℕ) (from found lost : Remains) (pick : Bool → List Item) (cost worth left : ℕ) (le : cost + left ≤ worth + 160)
+  module _ (table o key : ℕ) (from found lost : Remains) (pick : Bool → List Item) (cost worth left : ℕ) (le : cost + left ≤ worth + step_worth)
       (is : first_does c tables (chain_from from) (from s.hidden ++ more) ≡ source.looks c tables (chain_from from) table o (λ v. pick (same_low v key)))
       (hit : pick true ≡ found s.hidden ++ more) (miss : pick false ≡ lost s.hidden ++ more) where
     looked : Bool → Bool → CoreTurn
@@ -51,7 +53,7 @@ module _ (c : ℕ) (words : List ℕ) (tables : List (List ℕ)) (s : Cells) (mo
     look_pays = look_by (has_word tables table o) (same_low (word_in tables table o) key) is
 
   -- a word is loaded into a variable
-  module _ (x table o : ℕ) (from to : Remains) (cost worth left : ℕ) (le : cost + left ≤ worth + 160)
+  module _ (x table o : ℕ) (from to : Remains) (cost worth left : ℕ) (le : cost + left ≤ worth + step_worth)
       (is : first_does c tables (chain_from from) (from s.hidden ++ more) ≡ source.loads c tables (chain_from from) x table o (to s.hidden ++ more)) where
     loaded : Bool → CoreTurn
     loaded there =
@@ -71,7 +73,7 @@ module _ (c : ℕ) (words : List ℕ) (tables : List (List ℕ)) (s : Cells) (mo
     load_pays = load_by (has_word tables table o) is
 
   -- a word is loaded into a hidden word, which the chain only looks at
-  module _ (k table o : ℕ) (from to : Remains) (then_do : ℕ → List Item) (cost worth left : ℕ) (le : cost + left ≤ worth + 160)
+  module _ (k table o : ℕ) (from to : Remains) (then_do : ℕ → List Item) (cost worth left : ℕ) (le : cost + left ≤ worth + step_worth)
       (is : first_does c tables (chain_from from) (from s.hidden ++ more) ≡ source.looks c tables (chain_from from) table o then_do)
       (goes : (v : ℕ) → then_do v ≡ to (with_hidden s.hidden k v) ++ more) where
     kept : Bool → CoreTurn

@@ -1,5 +1,5 @@
 -- Each step of core statements that are a statement leads from a place to a place, and is some steps of the chain.
-use Rattle.std.proofs.Common.{◌≡◌, ℕ, zero, suc, ◌+◌, ◌*◌, ◌<◌, ◌≤◌, ◌⊎◌, inl, inr, Bool, true, false, if◌then◌else◌, List, [], ◌∷◌, ◌++◌, length, append_assoc, refl, sym, ap, ◌∙◌, subst, arith}
+use Rattle.std.proofs.Common.{◌≡◌, ℕ, zero, suc, ◌+◌, ◌<◌, ◌≤◌, ◌⊎◌, inl, inr, Bool, true, false, if◌then◌else◌, List, [], ◌∷◌, ◌++◌, length, refl, sym, ap, ◌∙◌, subst, arith}
 use Rattle.std.proofs.lemmas.Bool.{false≢true}
 use Rattle.redn_words.specs.declared.types.Obs.{Obs}
 use Rattle.redn_words.specs.declared.types.Obs.TheVariants as shows
@@ -7,14 +7,16 @@ use Rattle.redn_kernel.specs.declared.types.Cell.{Cell}
 use Rattle.redn_kernel.specs.declared.types.Cell.TheVariants as cell
 use Rattle.redn_kernel.specs.declared.types.Core.{Core, out-Core}
 use Rattle.redn_kernel.specs.declared.types.Core.TheOpen.{Core-F}
-use Rattle.redn_kernel.specs.Source.{ChainState, Turn, Item, wrapped, same, same_low, has_word, word_in}
+use Rattle.redn_kernel.specs.Source.{Turn, Item, wrapped, same, same_low, has_word, word_in}
 use Rattle.redn_kernel.specs.Steps.{Steps, unchanged}
 use Rattle.redn_kernel.specs.CoreRun as run
 use Rattle.redn_kernel.specs.CoreRun.{Cells, CoreItem, CoreTurn, Do, Again, Found, held, do_cores, core_does, core_item_does, core_step}
 use Rattle.redn_kernel.specs.Becomes.{chain_at, cores_at}
-use Rattle.redn_kernel.specs.Composes.{Remains, Point, Pays, First, DoesHere, Acts, Chooses, Looks, Rounds, Quits, begins_block, opens, core_cost, addend_cost, test_cost}
+use Rattle.redn_kernel.specs.Composes.{Remains, Point, Pays, First, DoesHere, Acts, Chooses, Looks, Rounds, Quits, begins_block, opens, core_cost}
+use Rattle.redn_kernel.specs.Costs.{move_cost, add_cost, test_cost, probe_cost, search_worth}
 use Rattle.redn_kernel.proofs.CoreRuns.{front_core}
-use Rattle.redn_kernel.proofs.Places.{point, Frame, Rest, Round, Place, Done, At, Takes, Turns, items_in, left_in, past_round, items, left, IsBefore, Stack, Taken, Stands, IsBusy, rank, settle, onward, settle_items, settle_left, settle_stands, settle_rank, past_rank, past_stack, past_items, onward_items, onward_left, onward_stands, onward_rank, open_rank}
+use Rattle.redn_kernel.proofs.Places.{point, Frame, Rest, Round, Place, Done, At, Takes, Turns, items_in, past_round, items, left, IsBefore, Stack, Stands, IsBusy, rank, settle, onward, settle_items, settle_left, settle_stands, past_rank}
+use Rattle.redn_kernel.proofs.Places.{past_stack, past_items, onward_items, onward_left, onward_stands, onward_rank, open_rank}
 
 -- a turn with its items, by whether it was a fault
 abbrev pub placed : CoreTurn → List CoreItem → List CoreItem → CoreTurn
@@ -104,13 +106,13 @@ module _ (c : ℕ) (words : List ℕ) (tables : List (List ℕ)) (s : Cells) whe
   placed_looks : (table o : ℕ) (next : ℕ → List CoreItem) (stay : List CoreItem) → run.looks c words tables (cores_at s stay) table o next ≡ placed (run.looks c words tables (cores_at s []) table o (λ v. [])) stay (next (word_in tables table o))
   placed_looks table o next stay = placed_if (has_word tables table o) _ _ _ _ stay (next (word_in tables table o)) refl refl
 
-  addend_pays : (by : Cell) → 16 ≤ addend_cost by
+  addend_pays : (by : Cell) → move_cost ≤ add_cost by
   addend_pays (cell.Num n) = omega arith
   addend_pays (cell.Var x) = omega arith
   addend_pays (cell.Hidden k) = omega arith
   addend_pays (cell.Argument i) = omega arith
 
-  test_pays : (wide : Bool) → 72 ≤ test_cost wide
+  test_pays : (wide : Bool) → test_cost false ≤ test_cost wide
   test_pays true = omega arith
   test_pays false = omega arith
 
@@ -128,11 +130,12 @@ module _ (c : ℕ) (words : List ℕ) (tables : List (List ℕ)) (s : Cells) whe
     stack : Stack frames
     stack = stands.3
 
-    acts : (layer : Core-F Core) → out-Core first ≡ layer → 16 ≤ core_cost layer → ((stay go : List CoreItem) → core_does c words tables (cores_at s stay) layer go ≡ placed (core_does c words tables (cores_at s []) layer []) stay go) → Acts (DoesHere d) p layer rest → Moved place
+    acts : (layer : Core-F Core) → out-Core first ≡ layer → move_cost ≤ core_cost layer →
+        ((stay go : List CoreItem) → core_does c words tables (cores_at s stay) layer go ≡ placed (core_does c words tables (cores_at s []) layer []) stay go) → Acts (DoesHere d) p layer rest → Moved place
     acts layer e cost is a =
         let turn = core_does c words tables (cores_at s []) layer [] in
         let go = onward d rest a.next behind out a.left frames in
-        let begins : (opens rest ≡ true) ⊎ (148 ≤ a.left) = elim a.onward [ inl begun ↦ inl begun | inr enough ↦ inr (omega (arith, enough)) ] in
+        let begins : (opens rest ≡ true) ⊎ (search_worth ≤ a.left) = elim a.onward [ inl begun ↦ inl begun | inr enough ↦ inr (omega (arith, enough)) ] in
         moves_by place go a.next (core_cost layer) worth a.left turn.tables turn.state.cells turn.state.items turn.event turn.state.ended
         (front_core c words tables s first layer (do_cores rest ++ items_in frames) e ∙ is (items place) (do_cores rest ++ items_in frames) ∙ ap (placed turn (items place)) (onward_items d a.next behind out a.left frames rest))
         (λ more. a.pays c words tables s more)
@@ -142,7 +145,7 @@ module _ (c : ℕ) (words : List ℕ) (tables : List (List ℕ)) (s : Cells) whe
         (onward_stands d a.next behind out a.left frames rest a.rest_holds begins before stack)
 
     -- a branch, with the statements behind it
-    module _ (done : Remains) (rest_holds : DoesHere d (point rest done behind out 148)) where
+    module _ (done : Remains) (rest_holds : DoesHere d (point rest done behind out search_worth)) where
       abbrev wider : List Frame
       wider = Rest d rest done behind out ∷ frames
 
@@ -150,22 +153,22 @@ module _ (c : ℕ) (words : List ℕ) (tables : List (List ℕ)) (s : Cells) whe
       wider_stack = (rest_holds, before, stack)
 
       abbrev branch_at : List Core → Remains → Place
-      branch_at cores begin = onward d cores begin done out 148 wider
+      branch_at cores begin = onward d cores begin done out search_worth wider
 
       branch_is : (cores : List Core) (begin : Remains) → do_cores cores ++ (do_cores rest ++ items_in frames) ≡ items (branch_at cores begin)
-      branch_is cores begin = onward_items d begin done out 148 wider cores
+      branch_is cores begin = onward_items d begin done out search_worth wider cores
 
       branch_before : IsBefore done out wider
       branch_before = (λ h. refl, before.1)
 
-      branch_stands : (cores : List Core) (begin : Remains) → DoesHere d (point cores begin done out 148) → Stands (branch_at cores begin)
-      branch_stands cores begin does = onward_stands d begin done out 148 wider cores does (inr (omega arith)) branch_before wider_stack
+      branch_stands : (cores : List Core) (begin : Remains) → DoesHere d (point cores begin done out search_worth) → Stands (branch_at cores begin)
+      branch_stands cores begin does = onward_stands d begin done out search_worth wider cores does (inr (omega arith)) branch_before wider_stack
 
-      branch_left : (cores : List Core) (begin : Remains) → DoesHere d (point cores begin done out 148) → (h : ℕ → ℕ) → begin h ≡ left (branch_at cores begin) h
-      branch_left cores begin does = onward_left d begin done out 148 wider cores does branch_before wider_stack
+      branch_left : (cores : List Core) (begin : Remains) → DoesHere d (point cores begin done out search_worth) → (h : ℕ → ℕ) → begin h ≡ left (branch_at cores begin) h
+      branch_left cores begin does = onward_left d begin done out search_worth wider cores does branch_before wider_stack
 
-      branch_rank : (cores : List Core) (begin : Remains) → DoesHere d (point cores begin done out 148) → rank (branch_at cores begin) ≤ 153 + length frames
-      branch_rank cores begin does = omega (arith, onward_rank d begin done out 148 wider cores does)
+      branch_rank : (cores : List Core) (begin : Remains) → DoesHere d (point cores begin done out search_worth) → rank (branch_at cores begin) ≤ search_worth + 5 + length frames
+      branch_rank cores begin does = omega (arith, onward_rank d begin done out search_worth wider cores does)
 
     chooses_by : (wide : Bool) (a b : Cell) (met unmet : List Core) → out-Core first ≡ Core-F.If wide a b met unmet → (x : Chooses (DoesHere d) p wide a b met unmet rest) →
         (yes : Bool) → same wide (held words s a) (held words s b) ≡ yes → Moved place
@@ -173,9 +176,10 @@ module _ (c : ℕ) (words : List ℕ) (tables : List (List ℕ)) (s : Cells) whe
     chooses_by wide a b met unmet e x true is =
         let go = branch_at x.done x.rest_holds met x.if_met in
         let all : List CoreItem = do_cores rest ++ items_in frames in
-        moves_by place go x.if_met (test_cost wide) worth 148 tables s [] shows.Nothing false
+        moves_by place go x.if_met (test_cost wide) worth search_worth tables s [] shows.Nothing false
         (front_core c words tables s first _ all e ∙ ap (λ (yes : Bool). run.goes_on c words tables (cores_at s (items place)) (do_cores (if yes then met else unmet) ++ all) shows.Nothing) is ∙ ap (λ (list : List CoreItem). run.goes_on c words tables (cores_at s (items place)) list shows.Nothing) (branch_is x.done x.rest_holds met x.if_met))
-        (λ more. subst (λ (yes : Bool). Pays c words tables s more here (if yes then x.if_met else x.if_unmet) (run.goes_on c words tables (cores_at s []) [] shows.Nothing) (test_cost wide) worth 148) is (x.pays c words tables s more))
+        (λ more. subst (λ (yes : Bool). Pays c words tables s more here (if yes then x.if_met else x.if_unmet) (run.goes_on c words tables (cores_at s []) [] shows.Nothing)
+        (test_cost wide) worth search_worth) is (x.pays c words tables s more))
         (branch_left x.done x.rest_holds met x.if_met x.met_holds)
         (λ le. omega (arith, le, test_pays wide, branch_rank x.done x.rest_holds met x.if_met x.met_holds))
         stands
@@ -183,9 +187,10 @@ module _ (c : ℕ) (words : List ℕ) (tables : List (List ℕ)) (s : Cells) whe
     chooses_by wide a b met unmet e x false is =
         let go = branch_at x.done x.rest_holds unmet x.if_unmet in
         let all : List CoreItem = do_cores rest ++ items_in frames in
-        moves_by place go x.if_unmet (test_cost wide) worth 148 tables s [] shows.Nothing false
+        moves_by place go x.if_unmet (test_cost wide) worth search_worth tables s [] shows.Nothing false
         (front_core c words tables s first _ all e ∙ ap (λ (yes : Bool). run.goes_on c words tables (cores_at s (items place)) (do_cores (if yes then met else unmet) ++ all) shows.Nothing) is ∙ ap (λ (list : List CoreItem). run.goes_on c words tables (cores_at s (items place)) list shows.Nothing) (branch_is x.done x.rest_holds unmet x.if_unmet))
-        (λ more. subst (λ (yes : Bool). Pays c words tables s more here (if yes then x.if_met else x.if_unmet) (run.goes_on c words tables (cores_at s []) [] shows.Nothing) (test_cost wide) worth 148) is (x.pays c words tables s more))
+        (λ more. subst (λ (yes : Bool). Pays c words tables s more here (if yes then x.if_met else x.if_unmet) (run.goes_on c words tables (cores_at s []) [] shows.Nothing)
+        (test_cost wide) worth search_worth) is (x.pays c words tables s more))
         (branch_left x.done x.rest_holds unmet x.if_unmet x.unmet_holds)
         (λ le. omega (arith, le, test_pays wide, branch_rank x.done x.rest_holds unmet x.if_unmet x.unmet_holds))
         stands
@@ -200,23 +205,23 @@ module _ (c : ℕ) (words : List ℕ) (tables : List (List ℕ)) (s : Cells) whe
         let turn = run.looks c words tables (cores_at s []) table o (λ v. []) in
         let found_or : Bool → List CoreItem = λ b. run.found_or c words tables (cores_at s (items place)) b to table offset hit miss all in
         let does = front_core c words tables s first _ all e ∙ placed_looks table o (λ v. found_or (same_low v (held words s key))) (items place) ∙ ap (λ (b : Bool). placed turn (items place) (found_or b)) is in
-        let pays = λ (more : List Item). subst (λ (b : Bool). Pays c words tables s more here (if b then x.found else x.if_miss) turn 132 worth 148) is (x.looks c words tables s more) in
+        let pays = λ (more : List Item). subst (λ (b : Bool). Pays c words tables s more here (if b then x.found else x.if_miss) turn probe_cost worth search_worth) is (x.looks c words tables s more) in
         looks_to to table offset key hit miss x met does pays
       where
         looks_to : (to : Cell) (table : ℕ) (offset key : Cell) (hit miss : List Core) → (x : Looks (DoesHere d) p to table offset key hit miss rest) → (met : Bool) →
             core_step c words tables (cores_at s (items place)) ≡ placed (run.looks c words tables (cores_at s []) table (held words s offset) (λ v. [])) (items place) (run.found_or c words tables (cores_at s (items place)) met to table offset hit miss (do_cores rest ++ items_in frames)) →
-            ((more : List Item) → Pays c words tables s more here (if met then x.found else x.if_miss) (run.looks c words tables (cores_at s []) table (held words s offset) (λ v. [])) 132 worth 148) → Moved place
+            ((more : List Item) → Pays c words tables s more here (if met then x.found else x.if_miss) (run.looks c words tables (cores_at s []) table (held words s offset) (λ v. [])) probe_cost worth search_worth) → Moved place
         looks_to to table offset key hit miss x true does pays =
             let turn = run.looks c words tables (cores_at s []) table (held words s offset) (λ v. []) in
             let go = Takes to table offset x.found d hit x.if_hit x.done out (wider x.done x.rest_holds) in
-            moves_by place go x.found 132 worth 148 turn.tables turn.state.cells turn.state.items turn.event turn.state.ended does pays (λ h. refl)
+            moves_by place go x.found probe_cost worth search_worth turn.tables turn.state.cells turn.state.items turn.event turn.state.ended does pays (λ h. refl)
             (λ le. omega (arith, le))
             stands
             (x.hit_holds, branch_before x.done x.rest_holds, wider_stack x.done x.rest_holds, x.takes)
         looks_to to table offset key hit miss x false does pays =
             let turn = run.looks c words tables (cores_at s []) table (held words s offset) (λ v. []) in
             let go = branch_at x.done x.rest_holds miss x.if_miss in
-            moves_by place go x.if_miss 132 worth 148 turn.tables turn.state.cells turn.state.items turn.event turn.state.ended
+            moves_by place go x.if_miss probe_cost worth search_worth turn.tables turn.state.cells turn.state.items turn.event turn.state.ended
             (does ∙ ap (placed turn (items place)) (branch_is x.done x.rest_holds miss x.if_miss))
             pays
             (branch_left x.done x.rest_holds miss x.if_miss x.miss_holds)
@@ -225,7 +230,7 @@ module _ (c : ℕ) (words : List ℕ) (tables : List (List ℕ)) (s : Cells) whe
             (branch_stands x.done x.rest_holds miss x.if_miss x.miss_holds)
 
     -- neither a loop nor a `Leave` begins a block
-    enough : opens (first ∷ rest) ≡ false → 148 ≤ worth
+    enough : opens (first ∷ rest) ≡ false → search_worth ≤ worth
     enough closed = elim stands.1 [ inl begun ↦ absurd (false≢true (sym closed ∙ begun)) | inr much ↦ much ]
 
     extra : opens (first ∷ rest) ≡ false → rank place ≡ worth + length frames + 4
@@ -239,15 +244,15 @@ module _ (c : ℕ) (words : List ℕ) (tables : List (List ℕ)) (s : Cells) whe
     rounds body e x =
         let all : List CoreItem = do_cores rest ++ items_in frames in
         let under : List Frame = Round d body here x.done ∷ wider x.done x.rest_holds in
-        let go = onward d body here here x.done 148 under in
+        let go = onward d body here here x.done search_worth under in
         let closed : opens (first ∷ rest) ≡ false = ap begins_block e in
         let stack_under : Stack under = (x.body_holds, x.begins, λ h. refl, wider_stack x.done x.rest_holds) in
         let before_under : IsBefore here x.done under = (λ h. refl, λ h. refl) in
         silently place go
-        (front_core c words tables s first _ all e ∙ ap (λ (list : List CoreItem). run.goes_on c words tables (cores_at s (items place)) list shows.Nothing) (onward_items d here here x.done 148 under body))
-        (onward_left d here here x.done 148 under body x.body_holds before_under stack_under)
-        (omega (arith, open_rank d here here x.done 148 under body x.begins, extra closed, enough closed))
-        (onward_stands d here here x.done 148 under body x.body_holds (inl x.begins) before_under stack_under)
+        (front_core c words tables s first _ all e ∙ ap (λ (list : List CoreItem). run.goes_on c words tables (cores_at s (items place)) list shows.Nothing) (onward_items d here here x.done search_worth under body))
+        (onward_left d here here x.done search_worth under body x.body_holds before_under stack_under)
+        (omega (arith, open_rank d here here x.done search_worth under body x.begins, extra closed, enough closed))
+        (onward_stands d here here x.done search_worth under body x.body_holds (inl x.begins) before_under stack_under)
 
     quits : out-Core first ≡ Core-F.Leave → Quits (DoesHere d) p rest → Moved place
     unfolding core_does begins_block
@@ -276,27 +281,27 @@ module _ (c : ℕ) (words : List ℕ) (tables : List (List ℕ)) (s : Cells) whe
       let place = Takes to table offset found d hit here behind out frames in
       let o : ℕ = wrapped (held words s offset + 8) in
       let turn = run.loads c words tables (cores_at s []) to table o [] in
-      let go = onward d hit here behind out 148 frames in
-      moves_by place go here 0 148 148 turn.tables turn.state.cells turn.state.items turn.event turn.state.ended
-      (placed_loads to table o (items place) (do_cores hit ++ items_in frames) ∙ ap (placed turn (items place)) (onward_items d here behind out 148 frames hit))
+      let go = onward d hit here behind out search_worth frames in
+      moves_by place go here 0 search_worth search_worth turn.tables turn.state.cells turn.state.items turn.event turn.state.ended
+      (placed_loads to table o (items place) (do_cores hit ++ items_in frames) ∙ ap (placed turn (items place)) (onward_items d here behind out search_worth frames hit))
       (λ more. taken c words tables s more)
-      (onward_left d here behind out 148 frames hit does before stack)
-      (λ le. omega (arith, onward_rank d here behind out 148 frames hit does))
+      (onward_left d here behind out search_worth frames hit does before stack)
+      (λ le. omega (arith, onward_rank d here behind out search_worth frames hit does))
       (does, before, stack, taken)
-      (onward_stands d here behind out 148 frames hit does (inr (omega arith)) before stack)
+      (onward_stands d here behind out search_worth frames hit does (inr (omega arith)) before stack)
 
   turns : (d : ℕ) (body : List Core) (here out : Remains) (frames : List Frame) → Stands (Turns d body here out frames) → Moved (Turns d body here out frames)
   unfolding core_item_does
   turns d body here out frames (does, begins, over, stack) =
       let place = Turns d body here out frames in
       let under : List Frame = Round d body here out ∷ frames in
-      let go = onward d body here here out 148 under in
+      let go = onward d body here here out search_worth under in
       let before_under : IsBefore here out under = (λ h. refl, over) in
       silently place go
-      (ap (λ (list : List CoreItem). run.goes_on c words tables (cores_at s (items place)) list shows.Nothing) (onward_items d here here out 148 under body))
-      (onward_left d here here out 148 under body does before_under (does, begins, over, stack))
-      (omega (arith, open_rank d here here out 148 under body begins))
-      (onward_stands d here here out 148 under body does (inl begins) before_under (does, begins, over, stack))
+      (ap (λ (list : List CoreItem). run.goes_on c words tables (cores_at s (items place)) list shows.Nothing) (onward_items d here here out search_worth under body))
+      (onward_left d here here out search_worth under body does before_under (does, begins, over, stack))
+      (omega (arith, open_rank d here here out search_worth under body begins))
+      (onward_stands d here here out search_worth under body does (inl begins) before_under (does, begins, over, stack))
 
   pub moves : (place : Place) → Stands place → IsBusy place → Moved place
   moves Done st busy = absurd busy

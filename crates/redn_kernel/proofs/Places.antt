@@ -1,15 +1,13 @@
 -- The places to which core statements come, and what the chain has left there.
-use Rattle.std.proofs.Common.{◌≡◌, ℕ, zero, suc, ◌+◌, ◌*◌, ◌<◌, ◌≤◌, ◌⊎◌, inl, inr, Bool, true, false, if◌then◌else◌, List, [], ◌∷◌, ◌++◌, length, map, append_assoc, refl, sym, ap, ◌∙◌, subst, arith}
-use Rattle.redn_words.specs.declared.types.Obs.{Obs}
-use Rattle.redn_words.specs.declared.types.Obs.TheVariants as shows
+use Rattle.std.proofs.Common.{◌≡◌, ℕ, zero, suc, ◌+◌, ◌<◌, ◌≤◌, ◌⊎◌, inr, Bool, true, false, if◌then◌else◌, List, [], ◌∷◌, ◌++◌, length, refl, ap, ◌∙◌, arith}
 use Rattle.redn_kernel.specs.declared.types.Cell.{Cell}
-use Rattle.redn_kernel.specs.declared.types.Core.{Core, out-Core}
-use Rattle.redn_kernel.specs.declared.types.Core.TheOpen.{Core-F}
+use Rattle.redn_kernel.specs.declared.types.Core.{Core}
 use Rattle.redn_kernel.specs.Source.{Item, wrapped}
 use Rattle.redn_kernel.specs.CoreRun as run
 use Rattle.redn_kernel.specs.CoreRun.{Cells, CoreItem, Do, Again, Found, held, do_cores, past_loop}
 use Rattle.redn_kernel.specs.Becomes.{cores_at}
-use Rattle.redn_kernel.specs.Composes.{Remains, Point, Pays, DoesHere, begins_block, opens}
+use Rattle.redn_kernel.specs.Costs.{search_worth}
+use Rattle.redn_kernel.specs.Composes.{Remains, Point, Pays, DoesHere, opens}
 
 abbrev pub point : List Core → Remains → Remains → Remains → ℕ → Point
 point cores here behind out worth = record { cores = cores; here = here; behind = behind; out = out; worth = worth }
@@ -59,18 +57,19 @@ IsBefore behind out frames = ((h : ℕ → ℕ) → behind h ≡ left_in frames 
 
 abbrev pub Stack : List Frame → Type 0
 Stack [] = Unit {0}
-Stack (Rest d cores here behind out ∷ frames) = DoesHere d (point cores here behind out 148) × IsBefore behind out frames × Stack frames
-Stack (Round d body here out ∷ frames) = DoesHere d (point body here here out 148) × (opens body ≡ true) × ((h : ℕ → ℕ) → out h ≡ left_in frames h) × Stack frames
+Stack (Rest d cores here behind out ∷ frames) = DoesHere d (point cores here behind out search_worth) × IsBefore behind out frames × Stack frames
+Stack (Round d body here out ∷ frames) = DoesHere d (point body here here out search_worth) × (opens body ≡ true) × ((h : ℕ → ℕ) → out h ≡ left_in frames h) × Stack frames
 
 abbrev pub Taken : Cell → ℕ → Cell → Remains → Remains → Type 0
 Taken to table offset found here =
-    (c : ℕ) (words : List ℕ) (tables : List (List ℕ)) (s : Cells) (more : List Item) → Pays c words tables s more found here (run.loads c words tables (cores_at s []) to table (wrapped (held words s offset + 8)) []) 0 148 148
+    (c : ℕ) (words : List ℕ) (tables : List (List ℕ)) (s : Cells) (more : List Item) →
+    Pays c words tables s more found here (run.loads c words tables (cores_at s []) to table (wrapped (held words s offset + 8)) []) 0 search_worth search_worth
 
 abbrev pub Stands : Place → Type 0
 Stands Done = Unit {0}
 Stands (At d first rest here behind out worth frames) =
-    DoesHere d (point (first ∷ rest) here behind out worth) × ((opens (first ∷ rest) ≡ true) ⊎ (148 ≤ worth)) × IsBefore behind out frames × Stack frames
-Stands (Takes to table offset found d hit here behind out frames) = DoesHere d (point hit here behind out 148) × IsBefore behind out frames × Stack frames × Taken to table offset found here
+    DoesHere d (point (first ∷ rest) here behind out worth) × ((opens (first ∷ rest) ≡ true) ⊎ (search_worth ≤ worth)) × IsBefore behind out frames × Stack frames
+Stands (Takes to table offset found d hit here behind out frames) = DoesHere d (point hit here behind out search_worth) × IsBefore behind out frames × Stack frames × Taken to table offset found here
 Stands (Turns d body here out frames) = Stack (Round d body here out ∷ frames)
 
 -- there is something left to do
@@ -82,14 +81,14 @@ IsBusy _ = Unit {0}
 abbrev pub rank : Place → ℕ
 rank Done = 0
 rank (At d first rest here behind out worth frames) = worth + length frames + (if opens (first ∷ rest) then 0 else 4)
-rank (Takes to table offset found d hit here behind out frames) = 153 + length frames
-rank (Turns d body here out frames) = 152 + length frames
+rank (Takes to table offset found d hit here behind out frames) = search_worth + 5 + length frames
+rank (Turns d body here out frames) = search_worth + 4 + length frames
 
 -- the first place behind
 abbrev pub settle : List Frame → Place
 settle [] = Done
 settle (Rest d [] here behind out ∷ frames) = settle frames
-settle (Rest d (first ∷ rest) here behind out ∷ frames) = At d first rest here behind out 148 frames
+settle (Rest d (first ∷ rest) here behind out ∷ frames) = At d first rest here behind out search_worth frames
 settle (Round d body here out ∷ frames) = Turns d body here out frames
 
 abbrev pub onward : ℕ → List Core → Remains → Remains → Remains → ℕ → List Frame → Place
@@ -119,14 +118,14 @@ four : (b : Bool) → (if b then 0 else 4) ≤ 4
 four true = omega arith
 four false = omega arith
 
-pub settle_rank : (frames : List Frame) → rank (settle frames) ≤ 152 + length frames
+pub settle_rank : (frames : List Frame) → rank (settle frames) ≤ search_worth + 4 + length frames
 settle_rank [] = omega arith
 settle_rank (Rest d [] here behind out ∷ frames) = omega (arith, settle_rank frames)
 settle_rank (Rest d (first ∷ rest) here behind out ∷ frames) = omega (arith, four (opens (first ∷ rest)))
 settle_rank (Round d body here out ∷ frames) = omega arith
 
 -- where nothing is behind, or less
-pub past_rank : (frames : List Frame) → rank (settle (past_round frames)) < 152 + length frames
+pub past_rank : (frames : List Frame) → rank (settle (past_round frames)) < search_worth + 4 + length frames
 past_rank [] = omega arith
 past_rank (Rest d cores here behind out ∷ frames) = omega (arith, past_rank frames)
 past_rank (Round d body here out ∷ frames) = omega (arith, settle_rank frames)
@@ -162,7 +161,7 @@ module _ (d : ℕ) (here behind out : Remains) (worth : ℕ) (frames : List Fram
       by_depth (suc d) [] does before st h = does.1 h ∙ before.0 h ∙ settle_left frames st h
       by_depth (suc d) (first ∷ rest) does before st h = refl
 
-  pub onward_stands : (cores : List Core) → DoesHere d (point cores here behind out worth) → (opens cores ≡ true) ⊎ (148 ≤ worth) → IsBefore behind out frames → Stack frames → Stands (onward d cores here behind out worth frames)
+  pub onward_stands : (cores : List Core) → DoesHere d (point cores here behind out worth) → (opens cores ≡ true) ⊎ (search_worth ≤ worth) → IsBefore behind out frames → Stack frames → Stands (onward d cores here behind out worth frames)
   onward_stands [] does begins before st = settle_stands frames st
   onward_stands (first ∷ rest) does begins before st = (does, begins, before, st)
 

@@ -8,7 +8,7 @@ use Rattle.redn_kernel.specs.declared.types.Kernel.TheVariants as s
 use Rattle.redn_kernel.specs.declared.types.Kernel.TheOpen.{Kernel-F}
 use Rattle.redn_kernel.specs.declared.types.TableInit.{TableInit}
 use Rattle.redn_kernel.specs.Program.{IsNamed, IsSoundStatement}
-use Rattle.redn_kernel.specs.Tasks.{IsUsable, AllUsable}
+use Rattle.redn_kernel.specs.Program.{IsUsable, AllUsable}
 
 module _ (vars : ℕ) (k : Kernel) (u : IsUsable vars k) where
   layer_sound : (layer : Kernel-F Kernel) → out-Kernel k ≡ layer → IsSoundStatement u.tables vars layer

@@ -33,7 +33,7 @@ abbrev pub Goes : Program → List (Option (List ℕ)) → List ℕ → List Obs
 Goes p messages cs shown = (all_run (source_start p messages) cs ≡ true) × (events (source_start p messages) cs ≡ shown)
 
 abbrev pub one_chain : List TableInit → ℕ → List ℕ → List Kernel → Program
-one_chain tables args vars body = record { tables = tables; chains = record { args = args; vars = vars; body = body } ∷ [] }
+one_chain tables args vars body = record { tables = tables; chains = record { serve = 1; args = args; vars = vars; body = body } ∷ [] }
 
 -- a message of these words
 abbrev pub message : List ℕ → Option (List ℕ)

@@ -1,10 +1,9 @@
 -- What core statements show under feeds, computed; a move is a move, and a loop around nothing is no lookup.
-use Rattle.std.proofs.Common.{◌≡◌, ℕ, inr, true, false, List, [], ◌∷◌, ◌++◌, refl, sym, ap, ◌∙◌, subst, arith}
-use Rattle.std.specs.List.{flat_map}
+use Rattle.std.proofs.Common.{◌≡◌, ℕ, inr, false, List, [], ◌∷◌, refl, sym, ap, ◌∙◌, subst, arith}
 use Rattle.redn_words.specs.declared.types.Obs.TheVariants as shows
 use Rattle.redn_words.specs.Words.{number, spelled}
 use Rattle.redn_kernel.specs.declared.types.Word.TheVariants as word
-use Rattle.redn_kernel.specs.declared.types.Cell.TheVariants.{Var, Hidden, Num}
+use Rattle.redn_kernel.specs.declared.types.Cell.TheVariants.{Var, Num}
 use Rattle.redn_kernel.specs.declared.types.Kernel.TheVariants as k
 use Rattle.redn_kernel.specs.declared.types.Core.{out-Core}
 use Rattle.redn_kernel.specs.declared.types.Core.TheVariants as s
@@ -13,11 +12,11 @@ use Rattle.redn_kernel.specs.declared.types.Core.TheBlock.{shown-the_row-Core-0}
 use denote.Hole.Carrier as carrier
 use Rattle.redn_kernel.specs.Source as source
 use Rattle.redn_kernel.specs.Source.{Find, item_does, statement_does}
-use Rattle.redn_kernel.specs.Steps.{unchanged}
-use Rattle.redn_kernel.specs.CoreRun.{Cells, CoreItem, CoreState, CoreTurn, Do, Again, core_does, core_item_does, core_step}
+use Rattle.redn_kernel.specs.CoreRun.{Cells, CoreTurn, Do, Again, core_does, core_item_does}
 use Rattle.redn_kernel.specs.Feeds.{Feed, seen_then, chain_after, chain_seen, cores_along, cores_seen}
 use Rattle.redn_kernel.specs.Becomes.{Becomes, chain_at, cores_at}
-use Rattle.redn_kernel.specs.Composes.{Composes, First, DoesHere, core_cost, begins_block, start_worth}
+use Rattle.redn_kernel.specs.Composes.{Composes, First, DoesHere, core_cost, begins_block}
+use Rattle.redn_kernel.specs.Costs.{statement_worth}
 use Rattle.redn_kernel.proofs.CoreRuns.{front_core, front_statement}
 use Rattle.redn_kernel.proofs.Composing.{pays_one}
 use Rattle.redn_kernel.proofs.Becoming.{becomes}
@@ -59,10 +58,10 @@ a_move_composes =
     record {
       begins = ap begins_block (s.outs-Move (Var 0) (Num 5));
       depth = 2;
-      does = subst (λ (layer : Core-F _). First (DoesHere 1) (record { cores = s.Move (Var 0) (Num 5) ∷ []; here = here; behind = done; out = done; worth = start_worth }) layer []) (sym (s.outs-Move (Var 0) (Num 5)))
+      does = subst (λ (layer : Core-F _). First (DoesHere 1) (record { cores = s.Move (Var 0) (Num 5) ∷ []; here = here; behind = done; out = done; worth = statement_worth }) layer []) (sym (s.outs-Move (Var 0) (Num 5)))
           (record {
             next = done;
-            left = 292;
+            left = 267;
             affords = omega arith;
             pays = λ c words tables s more. pays_one c words tables s more (front_statement c words tables s _ _ more (k.outs-Move 0 (word.Num 5))) (omega arith);
             onward = inr (omega arith);

@@ -1,5 +1,5 @@
 -- Core statements, and what they show, computed.
-use Rattle.std.proofs.Common.{◌≡◌, ℕ, zero, suc, true, false, List, [], ◌∷◌, refl, arith}
+use Rattle.std.proofs.Common.{◌≡◌, ℕ, zero, suc, ◌+◌, ◌≤◌, true, false, List, [], ◌∷◌, refl, arith}
 use Rattle.std.proofs.lemmas.Bool.{false≢true}
 use Rattle.std.specs.List.{flat_map}
 use Rattle.redn_words.specs.declared.types.Obs.{Obs}
@@ -15,6 +15,7 @@ use Rattle.redn_kernel.specs.declared.types.Core.TheBlock.{shown-the_row-Core-0}
 use denote.Hole.Carrier as carrier
 use Rattle.redn_kernel.specs.CoreRun.{CoreState, core_does, core_item_does, core_step, cores_after, do_cores}
 use Rattle.redn_kernel.specs.Becomes.{cores_at}
+use Rattle.redn_kernel.specs.Costs.{step_worth, entry_cost, test_cost, probe_cost, reply_cost, statement_worth, search_worth, jump_worth}
 use Rattle.redn_kernel.specs.Composes.{Point, DoesHere, Composes, core_cost, begins_block}
 use Rattle.redn_kernel.specs.Found.{buckets, nodes, first_with, with_found}
 
@@ -85,6 +86,22 @@ no_key = refl
 costs_of_sums : (core_cost (Core-F.Add (Hidden 0) (Num 16)) ≡ 16) × (core_cost (Core-F.Add (Hidden 0) (Var 1)) ≡ 32)
 unfolding core_cost
 costs_of_sums = (refl, refl)
+
+-- what may be spent where a search begins a block, and before a jump there
+the_worth_of_a_search : (search_worth ≡ 148) × (jump_worth ≡ 176)
+the_worth_of_a_search = (refl, refl)
+
+-- a step of the chain pays for the entry and the dearest first step, also where the entry costs 37
+a_step_pays_for_the_entry : (entry_cost + statement_worth ≤ step_worth) × (37 + statement_worth ≤ step_worth) × (test_cost true ≤ statement_worth)
+a_step_pays_for_the_entry = (omega arith, omega arith, omega arith)
+
+-- a probe is dearer, so no statement begins with one
+a_probe_is_dearer : probe_cost ≤ statement_worth → ⊥
+a_probe_is_dearer le = omega (arith, le)
+
+-- the greatest reply has eight words
+costs_of_replies : (reply_cost 1 ≡ 20) × (reply_cost 8 ≡ 48)
+costs_of_replies = (refl, refl)
 
 -- a loop begins no block by itself, and a probe does
 what_begins_a_block : (begins_block (Core-F.Loop []) ≡ false) × (begins_block (Core-F.Probe (Var 0) 0 (Hidden 0) (Num 5) [] []) ≡ true)

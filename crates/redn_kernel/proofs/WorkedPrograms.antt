@@ -69,11 +69,13 @@ listed most (b ∷ rest) e =
 
 -- chain c { arg p; var x = 5; loop { .. } }
 abbrev chain : ChainInit
-chain = record { args = 1; vars = 0 ∷ 5 ∷ []; body = s.Loop body ∷ [] }
+chain = record { serve = 1; args = 1; vars = 0 ∷ 5 ∷ []; body = s.Loop body ∷ [] }
 
 chain_is_sound : IsSoundChain tables chain
 chain_is_sound =
     record {
+      serves = omega arith;
+      serves_few = omega arith;
       arguments = omega arith;
       arguments_first = omega arith;
       arguments_fresh = refl;

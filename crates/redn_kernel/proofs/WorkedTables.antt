@@ -128,8 +128,8 @@ shared =
     record {
       tables = table true (0 ∷ []) ∷ [];
       chains =
-          record { args = 1; vars = 0 ∷ []; body = s.Store 0 (Num 0) (Var 0) ∷ s.Reply (Var 0 ∷ []) ∷ [] }
-          ∷ record { args = 0; vars = 0 ∷ []; body = s.Load 0 0 (Num 0) ∷ s.Reply (Var 0 ∷ []) ∷ [] } ∷ [];
+          record { serve = 1; args = 1; vars = 0 ∷ []; body = s.Store 0 (Num 0) (Var 0) ∷ s.Reply (Var 0 ∷ []) ∷ [] }
+          ∷ record { serve = 1; args = 0; vars = 0 ∷ []; body = s.Load 0 0 (Num 0) ∷ s.Reply (Var 0 ∷ []) ∷ [] } ∷ [];
     }
 
 -- the writer first

@@ -1,10 +1,5 @@
 pub mod Source
 pub mod Program
-pub mod Tasks
-pub mod RunView
-pub mod StateView
-pub mod Starting
-pub mod Answered
 pub mod Single
 pub mod Steps
 pub mod CoreRun
@@ -12,4 +7,5 @@ pub mod Feeds
 pub mod Becomes
 pub mod Found
 pub mod Uses
+pub mod Costs
 pub mod Composes

@@ -127,6 +127,14 @@ module _ (tables : List TableInit) (vars : ℕ) where
   IsSoundStatement (Kernel-F.Walk x table a key n) = IsSearch x table a key × (1 ≤ n) × (n ≤ 65535)
   IsSoundStatement (Kernel-F.Reply words) = All (IsNamed vars) words × (1 ≤ length words) × (length words ≤ 8)
 
+-- a statement is sound with some tables
+pub record IsUsable (vars : ℕ) (statement : Kernel) : Type 0 where
+  pub tables : List TableInit
+  pub sound : every-Kernel (IsSoundStatement tables vars) statement
+
+abbrev pub AllUsable : ℕ → List Kernel → Type 0
+AllUsable vars body = All (IsUsable vars) body
+
 abbrev pub AreBytes : List ℕ → Type 0
 AreBytes list = All (λ (b : ℕ). b < 256) list
 
@@ -134,6 +142,8 @@ abbrev pub AreWords : List ℕ → Type 0
 AreWords list = All (λ (v : ℕ). v < 2 ^ 64) list
 
 pub record IsSoundChain (tables : List TableInit) (c : ChainInit) : Type 0 where
+  pub serves : 1 ≤ c.serve
+  pub serves_few : c.serve ≤ 64
   pub arguments : c.args ≤ 8
   pub arguments_first : c.args ≤ length c.vars
   pub arguments_fresh : take c.args c.vars ≡ replicate c.args 0
@@ -156,3 +166,7 @@ pub record IsSound (p : Program) : Type 0 where
   pub few_bytes : sum_by (λ (t : TableInit). length t.bytes) p.tables ≤ 1048576
   pub sound_chains : All (IsSoundChain p.tables) p.chains
   pub light : sum_by chain_weight p.chains ≤ 4096
+
+-- each chain serves one message
+abbrev pub ServesOne : Program → Type 0
+ServesOne p = All (λ (c : ChainInit). c.serve ≡ 1) p.chains

@@ -5,4 +5,4 @@ use Rattle.redn_kernel.specs.declared.types.TableInit.{TableInit}
 use Rattle.redn_kernel.specs.declared.types.Program.{Program}
 
 abbrev pub one : List TableInit → ℕ → List ℕ → List Kernel → Program
-one tables args vars body = record { tables = tables; chains = record { args = args; vars = vars; body = body } ∷ [] }
+one tables args vars body = record { tables = tables; chains = record { serve = 1; args = args; vars = vars; body = body } ∷ [] }

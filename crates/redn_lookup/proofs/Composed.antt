@@ -12,7 +12,8 @@ use Rattle.redn_kernel.specs.Source.{Item, Find, Take, item_does, statement_does
 use Rattle.redn_kernel.specs.Steps.{unchanged}
 use Rattle.redn_kernel.specs.CoreRun.{Cells, held, put, cell_of, core_does}
 use Rattle.redn_kernel.specs.Becomes.{chain_at}
-use Rattle.redn_kernel.specs.Composes.{Remains, Point, First, DoesHere, Composes, branch, start_worth, core_cost, begins_block, opens}
+use Rattle.redn_kernel.specs.Composes.{Remains, Point, First, DoesHere, Composes, branch, core_cost, begins_block, opens}
+use Rattle.redn_kernel.specs.Costs.{probe_cost, statement_worth, search_worth}
 use Rattle.redn_kernel.proofs.CoreRuns.{held_word, front_statement}
 use Rattle.redn_kernel.proofs.Composing.{chain_from, pays_one, pays_none, look_pays, load_pays}
 use Rattle.redn_lookup.specs.Lookup.{bucket_of, misses_of, cores_of}
@@ -57,7 +58,7 @@ module _ (x table : ℕ) (offset key : Word) where
     abbrev at : ℕ → ℕ → Point
     at i worth = record p { cores = bucket i ∷ []; here = finds i; behind = done; worth = worth }
 
-    looks : (n i worth : ℕ) → 132 ≤ worth → DoesHere (suc n) (branch p (misses_of x table (cell_of key) i) (lost i) done) →
+    looks : (n i worth : ℕ) → probe_cost ≤ worth → DoesHere (suc n) (branch p (misses_of x table (cell_of key) i) (lost i) done) →
         DoesHere (suc (suc n)) (at i worth)
     unfolding First item_does
     looks n i worth le miss =
@@ -72,38 +73,39 @@ module _ (x table : ℕ) (offset key : Word) where
           affords = le;
           looks = λ c words tables s more.
               look_pays c words tables s more table (s.hidden 0) (held words s (cell_of key)) (finds i) taking (lost i)
-              (λ met. source.found_or met x table (s.hidden 0) key (suc i) more) 132 worth start_worth (omega (arith, le))
+              (λ met. source.found_or met x table (s.hidden 0) key (suc i) more) probe_cost worth search_worth (omega (arith, le))
               (ap (λ (v : ℕ). source.looks c tables (chain_from c words tables s more (finds i)) table (s.hidden 0) (λ w. source.found_or (same_low w v) x table (s.hidden 0) key (suc i) more)) (sym (held_word words s key)))
               refl (lost_is i s.hidden more);
-          takes = λ c words tables s more. load_pays c words tables s more x table (wrapped (s.hidden 0 + 8)) taking done 0 start_worth start_worth (omega arith) refl;
+          takes = λ c words tables s more. load_pays c words tables s more x table (wrapped (s.hidden 0 + 8)) taking done 0 search_worth search_worth (omega arith) refl;
           hit_holds = (omega arith, λ h. refl);
           miss_holds = miss;
           rest_holds = (omega arith, λ h. refl);
         })
 
-    raises : (n i : ℕ) → DoesHere n (at i 132) → DoesHere (suc n) (branch p (misses_of x table (cell_of key) (suc i)) (lost (suc i)) done)
+    raises : (n i : ℕ) → DoesHere n (at i probe_cost) → DoesHere (suc n) (branch p (misses_of x table (cell_of key) (suc i)) (lost (suc i)) done)
     unfolding First core_does core_cost
     raises n i does =
         let first : Core-F Core → Type 0 = λ layer. First (DoesHere n) (branch p (misses_of x table (cell_of key) (suc i)) (lost (suc i)) done) layer (bucket i ∷ []) in
         subst first (sym (core.outs-Add (cell.Hidden 0) (cell.Num 16)))
         (record {
           next = finds i;
-          left = 132;
+          left = probe_cost;
           affords = omega arith;
           pays = λ c words tables s more. pays_none c words tables s more refl (omega arith);
           onward = inl (bucket_opens i);
           rest_holds = does;
         })
 
-  bucket_does : (i worth : ℕ) (p : Point) → 132 ≤ worth → DoesHere (suc (deep i)) (at p i worth)
+  bucket_does : (i worth : ℕ) (p : Point) → probe_cost ≤ worth → DoesHere (suc (deep i)) (at p i worth)
   unfolding deep
   bucket_does zero worth p le = looks p 0 zero worth le (omega arith, λ h. refl)
-  bucket_does (suc i) worth p le = looks p (suc (deep i)) (suc i) worth le (raises p (suc (deep i)) i (bucket_does i 132 p (omega arith)))
+  bucket_does (suc i) worth p le = looks p (suc (deep i)) (suc i) worth le (raises p (suc (deep i)) i (bucket_does i probe_cost p (omega arith)))
 
   pub lookup_composes : (more : ℕ) → Composes (k.Lookup x table offset key (suc more)) (cores_of x table offset key more)
   unfolding First core_does core_cost statement_does begins_block
   lookup_composes more =
-      let first : Core-F Core → Type 0 = λ layer. First (DoesHere (suc (deep more))) (record { cores = cores_of x table offset key more; here = λ h. source.Do (k.Lookup x table offset key (suc more)) ∷ []; behind = done; out = done; worth = start_worth }) layer (bucket more ∷ []) in
+      let first : Core-F Core → Type 0 = λ layer. First (DoesHere (suc (deep more)))
+      (record { cores = cores_of x table offset key more; here = λ h. source.Do (k.Lookup x table offset key (suc more)) ∷ []; behind = done; out = done; worth = statement_worth }) layer (bucket more ∷ []) in
       let out = core.outs-Move (cell.Hidden 0) (cell_of offset) in
       record {
         begins = ap begins_block out;
@@ -111,7 +113,7 @@ module _ (x table : ℕ) (offset key : Word) where
         does = subst first (sym out)
             (record {
               next = finds more;
-              left = 132;
+              left = probe_cost;
               affords = omega arith;
               pays = λ c words tables s behind.
                   let v : ℕ = held words s (cell_of offset) in
@@ -121,6 +123,6 @@ module _ (x table : ℕ) (offset key : Word) where
                   ∙ ap (λ (o : ℕ). unchanged tables (chain_at words now false (Find x table o key (suc more) ∷ behind))) (sym (held_word words s offset)))
                   (omega arith);
               onward = inl (bucket_opens more);
-              rest_holds = bucket_does more 132 (record { cores = []; here = done; behind = done; out = done; worth = 0 }) (omega arith);
+              rest_holds = bucket_does more probe_cost (record { cores = []; here = done; behind = done; out = done; worth = 0 }) (omega arith);
             });
       }

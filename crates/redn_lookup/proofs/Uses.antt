@@ -1,18 +1,16 @@
 -- The core statements of a lookup use hidden word 0 alone.
-use Rattle.std.proofs.Common.{◌≡◌, ℕ, zero, suc, List, [], ◌∷◌, refl, sym, ap, ◌∙◌, subst, arith}
+use Rattle.std.proofs.Common.{◌≡◌, ℕ, zero, suc, List, [], ◌∷◌, refl, ap, arith}
 use Rattle.std.specs.Prelude.{map}
-use Rattle.std.proofs.lemmas.List.Elements.{All-cons, All-nil}
 use Rattle.redn_kernel.specs.declared.types.Word.{Word}
-use Rattle.redn_kernel.specs.declared.types.Word.TheVariants.{Var, Num}
 use Rattle.redn_kernel.specs.declared.types.Cell.{Cell}
 use Rattle.redn_kernel.specs.declared.types.Cell.TheVariants as cell
-use Rattle.redn_kernel.specs.declared.types.Core.{Core, out-Core, map-Core, every-Core, every_made-Core, roll-Core, roll-out-Core}
+use Rattle.redn_kernel.specs.declared.types.Core.{Core}
 use Rattle.redn_kernel.specs.declared.types.Core.TheOpen.{Core-F}
 use Rattle.redn_kernel.specs.declared.types.Core.TheVariants as core
 use Rattle.redn_kernel.specs.CoreRun.{cell_of}
 use Rattle.redn_lookup.specs.Lookup.{bucket_of, misses_of, cores_of}
 use Rattle.redn_kernel.proofs.Uses.{Below, Held, below_of, all_below, word_below}
-use Rattle.redn_kernel.specs.Uses.{IsBelow, UsesBelow, AllBelow}
+use Rattle.redn_kernel.specs.Uses.{IsBelow, AllBelow}
 
 module _ (x table : ℕ) (key : Cell) (key_below : IsBelow 1 key) where
   bucket_below : (miss : List Core) (held : List (Held 1)) → map (λ e. e.0) held ≡ miss → Below 1 (bucket_of x table key miss)

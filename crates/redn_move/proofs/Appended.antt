@@ -3,6 +3,7 @@ use Rattle.std.proofs.Common.{◌≡◌, ℕ, ◌+◌, ◌-◌, ◌*◌, ◌<◌
 use Rattle.std.specs.Prelude.{nat_le, nat_lt, min, max, slice_index}
 use Rattle.std.specs.List.{list_all, list_any, sum_by}
 use Rattle.std.proofs.lemmas.List.Sums.{sum_by-cons}
+use Rattle.redn_kernel.specs.Costs.{reply_cost}
 use Rattle.redn_segment.specs.Costs.{Costs, sends, segment_slots, segment_actions}
 use Rattle.std.proofs.lemmas.Bool.{false≢true, and_from}
 use Rattle.std.proofs.lemmas.Bool.Decides.{nat_tests}
@@ -211,7 +212,7 @@ module _ (words : List Cell) (some : 1 ≤ length words) (few : length words ≤
   no_send [] i = refl
   no_send (w ∷ ws) i = no_send ws (i + 1)
 
-  pub reply_costs : (old new : Building) → new ≡ record old { segments = old.segments ++ reply words } → Costs old new (length words + 5) (4 * length words + 16)
+  pub reply_costs : (old new : Building) → new ≡ record old { segments = old.segments ++ reply words } → Costs old new (length words + 5) (reply_cost (length words))
   reply_costs old new e =
       let none = no_send words 0 in
       let long : length (copies_from 0 words) ≡ length words = length_copies words 0 in

@@ -18,6 +18,7 @@ use Rattle.redn_segment.specs.declared.types.Space.TheVariants as space
 use Rattle.redn_segment.specs.declared.types.Site.TheVariants as site
 use Rattle.std.specs.List.{sum_by}
 use Rattle.redn_segment.specs.Building.{drafts_of}
+use Rattle.redn_kernel.specs.Costs.{add_cost}
 use Rattle.redn_segment.specs.Costs.{segment_slots, segment_actions}
 use Rattle.redn_segment.specs.Drafts.{slot_from, field, copy, read_table, add_to, choose}
 use Rattle.redn_segment.specs.Sites.{kind_of_cell}
@@ -422,7 +423,7 @@ pub add_slots : (slot : ℕ → SlotRef) (to by : Cell) → sum_by segment_slots
 add_slots slot to (Num n) = refl
 add_slots slot to _ = refl
 
-pub add_actions : (slot : ℕ → SlotRef) (to by : Cell) → sum_by segment_actions (add_segments slot to by) ≡ 16 * add_count by
+pub add_actions : (slot : ℕ → SlotRef) (to by : Cell) → sum_by segment_actions (add_segments slot to by) ≡ add_cost by
 add_actions slot to (Num n) = refl
 add_actions slot to _ = refl
 

@@ -1,5 +1,6 @@
 ghost use Rattle.std.specs.Prelude.{◌≡◌, ◌++◌, ◌+◌, ◌*◌, ◌<◌, ◌^◌, ℕ, [], ◌∷◌, length, OnOk, IfOk};
 ghost use Rattle.redn_kernel.specs.declared.types.Cell.TheVariants.{Num};
+ghost use Rattle.redn_kernel.specs.Costs.{move_cost, add_cost, load_cost, store_cost, jump_cost};
 ghost use Rattle.redn_segment.specs.declared.types.SlotRef.{SlotRef as SpecSlot};
 ghost use Rattle.redn_segment.specs.Building.{drafts_of};
 ghost use Rattle.redn_segment.specs.Drafts.{slot_from};
@@ -19,9 +20,10 @@ use std::alloc::Global;
 pub fn set_template(alloc: Global, b: &mut RingBuilder, to: Cell, value: u64) -> Result<(), Memory>
     requires few { length (drafts_of b.old.segments) < 2 ^ 31 }
     requires target { IsTarget to }
-    ensures made { OnOk result (b.new ≡ record b.old { segments = b.old.segments ++ moves.move_word (slot_from b.old.ring (length (drafts_of b.old.segments))) to (Num value) }) }
+    ensures made { OnOk result
+        (b.new ≡ record b.old { segments = b.old.segments ++ moves.move_word (slot_from b.old.ring (length (drafts_of b.old.segments))) to (Num value) }) }
     ensures appended { OnOk result (Appends b.old b.new 1 1 0 (moves to (Num value))) }
-    ensures cost { OnOk result (Costs b.old b.new 5 16) }
+    ensures cost { OnOk result (Costs b.old b.new 5 move_cost) }
     ensures rights { OnOk result (Rights b.old b.new []) }
 {
     move_template(alloc, b, to, Cell::Num(value))
@@ -40,9 +42,10 @@ fn move_segments(alloc: Global, to: Cell, from: Cell) -> Result<Vec<Segment>, Me
 pub fn move_template(alloc: Global, b: &mut RingBuilder, to: Cell, from: Cell) -> Result<(), Memory>
     requires few { length (drafts_of b.old.segments) < 2 ^ 31 }
     requires target { IsTarget to }
-    ensures made { OnOk result (b.new ≡ record b.old { segments = b.old.segments ++ moves.move_word (slot_from b.old.ring (length (drafts_of b.old.segments))) to from }) }
+    ensures made { OnOk result
+        (b.new ≡ record b.old { segments = b.old.segments ++ moves.move_word (slot_from b.old.ring (length (drafts_of b.old.segments))) to from }) }
     ensures appended { OnOk result (Appends b.old b.new 1 1 0 (moves to from)) }
-    ensures cost { OnOk result (Costs b.old b.new 5 16) }
+    ensures cost { OnOk result (Costs b.old b.new 5 move_cost) }
     ensures rights { OnOk result (Rights b.old b.new []) }
 {
     let segments = move_segments(alloc, to, from)?;
@@ -72,9 +75,10 @@ fn add_segments(alloc: Global, b: &RingBuilder, to: Cell, by: Cell) -> Result<Ve
 pub fn add_template(alloc: Global, b: &mut RingBuilder, to: Cell, by: Cell) -> Result<(), Memory>
     requires few { length (drafts_of b.old.segments) < 2 ^ 31 }
     requires target { IsTarget to }
-    ensures made { OnOk result (b.new ≡ record b.old { segments = b.old.segments ++ segments_to_add (slot_from b.old.ring (length (drafts_of b.old.segments))) to by }) }
+    ensures made { OnOk result
+        (b.new ≡ record b.old { segments = b.old.segments ++ segments_to_add (slot_from b.old.ring (length (drafts_of b.old.segments))) to by }) }
     ensures appended { OnOk result (Appends b.old b.new (add_count by) (add_count by) 0 (adds to by)) }
-    ensures cost { OnOk result (Costs b.old b.new (5 * add_count by) (16 * add_count by)) }
+    ensures cost { OnOk result (Costs b.old b.new (5 * add_count by) (add_cost by)) }
     ensures rights { OnOk result (Rights b.old b.new []) }
 {
     let segments = add_segments(alloc, b, to, by)?;
@@ -109,9 +113,10 @@ pub fn load_template(
 ) -> Result<(), Memory>
     requires few { length (drafts_of b.old.segments) < 2 ^ 31 }
     requires target { IsTarget to }
-    ensures made { OnOk result (b.new ≡ record b.old { segments = b.old.segments ++ moves.load (slot_from b.old.ring (length (drafts_of b.old.segments))) to table offset }) }
+    ensures made { OnOk result
+        (b.new ≡ record b.old { segments = b.old.segments ++ moves.load (slot_from b.old.ring (length (drafts_of b.old.segments))) to table offset }) }
     ensures appended { OnOk result (Appends b.old b.new 2 2 0 (loads to table offset (slot_from b.old.ring (length (drafts_of b.old.segments)) 1))) }
-    ensures cost { OnOk result (Costs b.old b.new 10 32) }
+    ensures cost { OnOk result (Costs b.old b.new 10 load_cost) }
     ensures rights { OnOk result (Rights b.old b.new []) }
 {
     let segments = load_segments(alloc, b, to, table, offset)?;
@@ -146,10 +151,11 @@ pub fn store_template(
     from: Cell,
 ) -> Result<(), Memory>
     requires few { length (drafts_of b.old.segments) < 2 ^ 31 }
-    ensures made { OnOk result (b.new ≡ record b.old { segments = b.old.segments ++ moves.store (slot_from b.old.ring (length (drafts_of b.old.segments))) table offset from }) }
+    ensures made { OnOk result
+        (b.new ≡ record b.old { segments = b.old.segments ++ moves.store (slot_from b.old.ring (length (drafts_of b.old.segments))) table offset from }) }
     ensures appended { OnOk result (Appends b.old b.new 2 2 0 (stores table offset from
         (slot_from b.old.ring (length (drafts_of b.old.segments)) 1))) }
-    ensures cost { OnOk result (Costs b.old b.new 10 32) }
+    ensures cost { OnOk result (Costs b.old b.new 10 store_cost) }
     ensures rights { OnOk result (Rights b.old b.new (table ∷ [])) }
 {
     let segments = store_segments(alloc, b, table, offset, from)?;
@@ -170,9 +176,10 @@ fn jump_segments(alloc: Global, b: &RingBuilder, to: u32) -> Result<Vec<Segment>
 /// Appends the choice of that next block.
 pub fn jump_template(alloc: Global, b: &mut RingBuilder, to: u32) -> Result<(), Memory>
     requires few { length (drafts_of b.old.segments) < 2 ^ 31 }
-    ensures made { OnOk result (b.new ≡ record b.old { segments = b.old.segments ++ moves.jump (slot_from b.old.ring (length (drafts_of b.old.segments))) to }) }
+    ensures made { OnOk result
+        (b.new ≡ record b.old { segments = b.old.segments ++ moves.jump (slot_from b.old.ring (length (drafts_of b.old.segments))) to }) }
     ensures appended { OnOk result (Appends b.old b.new 2 1 1 (jumps to (slot_from b.old.ring (length (drafts_of b.old.segments)) 1))) }
-    ensures cost { OnOk result (Costs b.old b.new 9 28) }
+    ensures cost { OnOk result (Costs b.old b.new 9 jump_cost) }
     ensures rights { OnOk result (Rights b.old b.new []) }
 {
     let segments = jump_segments(alloc, b, to)?;

@@ -1,4 +1,5 @@
 ghost use Rattle.std.specs.Prelude.{◌≡◌, ◌++◌, ◌+◌, ◌*◌, ◌<◌, ◌≤◌, ◌^◌, [], length, OnOk, IfOk};
+ghost use Rattle.redn_kernel.specs.Costs.{reply_cost};
 ghost use Rattle.redn_segment.specs.Building.{drafts_of};
 ghost use Rattle.redn_segment.specs.Effects.{replies};
 ghost use Rattle.redn_segment.specs.Costs.{Costs};
@@ -59,7 +60,7 @@ pub fn reply_template(alloc: Global, b: &mut RingBuilder, words: &[Cell]) -> Res
     ensures made { OnOk result (b.new ≡ record b.old { segments = b.old.segments ++ reply words.now }) }
     ensures appended { OnOk result
         (Appends b.old b.new 2 (length words.now + 1) 0 (replies words.now)) }
-    ensures cost { OnOk result (Costs b.old b.new (length words.now + 5) (4 * length words.now + 16)) }
+    ensures cost { OnOk result (Costs b.old b.new (length words.now + 5) (reply_cost (length words.now))) }
     ensures rights { OnOk result (Rights b.old b.new []) }
 {
     let segments = reply_segments(alloc, words)?;

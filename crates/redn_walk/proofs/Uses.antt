@@ -1,17 +1,14 @@
 -- The core statements of a walk use the hidden words 0 and 1 alone.
-use Rattle.std.proofs.Common.{◌≡◌, ℕ, List, [], ◌∷◌, true, false, refl, sym, ap, ◌∙◌, subst, arith}
-use Rattle.std.specs.Prelude.{map}
-use Rattle.std.proofs.lemmas.List.Elements.{All-cons, All-nil}
+use Rattle.std.proofs.Common.{ℕ, List, [], ◌∷◌, true, false, refl, arith}
 use Rattle.redn_kernel.specs.declared.types.Word.{Word}
-use Rattle.redn_kernel.specs.declared.types.Word.TheVariants.{Var, Num}
 use Rattle.redn_kernel.specs.declared.types.Cell.TheVariants as cell
-use Rattle.redn_kernel.specs.declared.types.Core.{Core, out-Core, map-Core, every-Core, every_made-Core, roll-Core, roll-out-Core}
+use Rattle.redn_kernel.specs.declared.types.Core.{Core}
 use Rattle.redn_kernel.specs.declared.types.Core.TheOpen.{Core-F}
 use Rattle.redn_kernel.specs.declared.types.Core.TheVariants as core
 use Rattle.redn_kernel.specs.CoreRun.{cell_of}
 use Rattle.redn_walk.specs.Walk.{leave_of, turn_of, step_of, miss_of, body_of, cores_of}
 use Rattle.redn_kernel.proofs.Uses.{Below, Held, below_of, all_below, word_below}
-use Rattle.redn_kernel.specs.Uses.{IsBelow, UsesBelow, AllBelow}
+use Rattle.redn_kernel.specs.Uses.{AllBelow}
 
 leave : List (Held 2)
 leave = (core.Leave, below_of 2 core.Leave Core-F.Leave Core-F.Leave core.outs-Leave refl tt) ∷ []

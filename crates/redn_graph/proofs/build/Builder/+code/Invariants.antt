@@ -1,6 +1,6 @@
 use Rattle.std.proofs.Common.{◌+◌, ◌*◌, drop}
 use Rattle.redn_kernel.specs.Program.{weight_of, weight_of_all}
-use Rattle.redn_graph.proofs.Lists.{Listed}
+use Rattle.redn_graph.specs.Listed.{Listed}
 use Rattle.redn_graph.proofs.build.Builder.+code.Given as goal
 
 -- the statements from this one on have code

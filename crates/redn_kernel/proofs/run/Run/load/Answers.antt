@@ -1,6 +1,0 @@
-use Rattle.redn_kernel.specs.RunView.{run_view}
-use Rattle.redn_kernel.proofs.Turns.{turn_without}
-use Rattle.redn_kernel.proofs.run.Run.load.Goals as goal
-
-pub returns-in_default-clause-turn : goal.returns-in_default-clause-turn
-returns-in_default-clause-turn c = turn_without _ _ (run_view c.args.self.now) _ _ _ _ c.in_default.ensures (c.fault.ensures.turn _)

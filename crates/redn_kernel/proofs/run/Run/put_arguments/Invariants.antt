@@ -1,5 +1,0 @@
-use Rattle.redn_kernel.proofs.Arguments.{IsPut}
-use Rattle.redn_kernel.proofs.run.Run.put_arguments.Given as goal
-
-abbrev pub invariant-loop-i : goal.invariant-loop-i
-invariant-loop-i l = IsPut l.initial.self l.self l.count l.i
