@@ -13,7 +13,7 @@ use Rattle.redn_kernel.specs.declared.types.Cell.{Cell}
 use Rattle.redn_kernel.specs.declared.types.Cell.TheVariants as cell
 use Rattle.redn_kernel.specs.CoreRun.{held}
 use Rattle.redn_graph.specs.Fits.{IsCell}
-use Rattle.redn_graph.specs.Run.{GraphState}
+use Rattle.redn_graph.specs.Run.{GraphState, in_hand}
 use Rattle.redn_segment.specs.declared.types.SlotRef.{SlotRef}
 use Rattle.redn_segment.specs.declared.types.Space.{Space}
 use Rattle.redn_segment.specs.declared.types.Space.TheVariants as space
@@ -136,7 +136,7 @@ module _ (l : Laying) (is : IsLaying l) where
         by_mine true f = named (space.Cell (cell.Num n)) f ∙ h.numbers n f
         by_mine false f = unnamed (space.Cell (cell.Num n)) f
 
-    cell_is : (a : Cell) → IsCell l.things a → IsWord a → word_of s a ≡ held l.course.words y.cells a
+    cell_is : (a : Cell) → IsCell l.things a → IsWord a → word_of s a ≡ held (in_hand l.course.mail y) y.cells a
     cell_is (cell.Num n) there small = ap (λ (b : List ℕ). word b 0) (number_is n) ∙ number-spelled 8 n small
     cell_is (cell.Var i) there small = let k = h.cells (cell.Var i) there refl in ap (λ (b : List ℕ). word b 0) (named (space.Cell (cell.Var i)) k.0) ∙ k.1
     cell_is (cell.Hidden i) there small = let k = h.cells (cell.Hidden i) there refl in ap (λ (b : List ℕ). word b 0) (named (space.Cell (cell.Hidden i)) k.0) ∙ k.1

@@ -10,19 +10,18 @@ use Rattle.redn_words.specs.declared.types.Obs.{Obs}
 use Rattle.redn_words.specs.Words.{bytes_at}
 use Rattle.redn_graph.specs.declared.types.Instr.{Instr}
 use Rattle.redn_graph.specs.declared.types.End.{End}
-use Rattle.redn_graph.specs.declared.types.End.TheVariants.{Jump, Test48, Test64, Probe, Reply}
+use Rattle.redn_graph.specs.declared.types.End.TheVariants.{Reply}
 use Rattle.redn_graph.specs.Fits.{FitsInstr}
-use Rattle.redn_graph.specs.Run.{GraphState}
+use Rattle.redn_graph.specs.Run.{GraphState, in_hand}
 use Rattle.redn_segment.specs.declared.types.SlotRef.{SlotRef}
 use Rattle.redn_segment.specs.declared.types.Draft.{Draft}
 use Rattle.redn_segment.specs.declared.types.Space.TheVariants as space
-use Rattle.redn_segment.specs.Sites.{next_slot}
 use Rattle.redn_segment.specs.Building.{drafts_of}
 use Rattle.redn_segment.specs.Plain.{Bytes, Put, placed, Outcome, Went, Faults, Bad, runs}
 use Rattle.redn_segment.specs.Primed.{Primed, IsWhole, writes_slot}
 use Rattle.redn_segment.specs.Effects.{Effect, Leaves, Stops, Meets, IsLeft, is_own, slot_behind}
 use Rattle.redn_segment.specs.Parts.{IsPart, LeavesWhole}
-use Rattle.redn_segment.proofs.Composing.{not_owns, behind_next, behind_none, ends_long, writes_both}
+use Rattle.redn_segment.proofs.Composing.{not_owns, ends_long, writes_both}
 use Rattle.redn_segment.proofs.Growing.{drafts_append}
 use Rattle.redn_block.specs.Blocks.{ring_of, instr_part, end_part, part_segments, part_effect, part_size, HasTarget, InstrWords}
 use Rattle.redn_block.specs.Matches.{IsAt, IsOver, Onward, Ended}
@@ -118,15 +117,18 @@ module _ (most : ℕ) (r : Round) (is_round : IsRound most r) where
     -- an instruction does what it has to do, whatever the tables are
     pub instr_left : (b : Bytes) (x : GraphState) (t : Bytes) → AtPart r b place x t → IsLeftOf r.course (AtPart r b (suc place)) false x at ds t
     instr_left b x t here view number sees =
-        left_by (runs view at ds t) (part_effect at (instr_part i) view t) (its_part.does view sees t here.stands.whole here.stands.room (own_primed t here.stands.primed)) (its_part.tame.whole view sees t here.stands.whole) (instr_follows r.course.number r.course.words r.course.graph r.things r.number place r.block is_round.there x here.is_at view number t here.stands.whole here.same at i (ap (slice_get r.block.instrs) (let e : place ≡ place + 0 = omega arith in e) ∙ h.its 0) (All-head (FitsInstr r.things) i is h.fits) (All-head InstrWords i is h.small)) (instr_keeps i at view t)
+        left_by (runs view at ds t) (part_effect at (instr_part i) view t) (its_part.does view sees t here.stands.whole here.stands.room (own_primed t here.stands.primed)) (its_part.tame.whole view sees t here.stands.whole)
+        (instr_follows r.course.number r.course.mail r.course.graph r.things r.number place r.block is_round.there x here.is_at view number t here.stands.whole here.same at i (ap (slice_get r.block.instrs)
+        (let e : place ≡ place + 0 = omega arith in e) ∙ h.its 0) (All-head (FitsInstr r.things) i is h.fits) (All-head InstrWords i is h.small)) (instr_keeps i at view t)
       where
-        left_by : (o : Outcome) (one : Effect) → Meets at ds t o one → LeavesWhole one → After r.course.number r.course.words r.course.graph r.things r.number place r.block is_round.there x here.is_at t one → Keeps t one → LeftBy r.course (AtPart r b (suc place)) false x t o
+        left_by : (o : Outcome) (one : Effect) → Meets at ds t o one → LeavesWhole one → After r.course.number r.course.mail r.course.graph r.things r.number place r.block is_round.there x here.is_at t one → Keeps t one →
+            LeftBy r.course (AtPart r b (suc place)) false x t o
         left_by (Went us shown) (Leaves u events) m whole k keeps = (
           k.0,
           subst (λ (l : List Obs). Rest r.course false x l k.0) (sym m.0) k.1,
           record {
             is_at = k.3;
-            same = same_cells r.things r.course.words k.0.cells u (placed t us) (λ a. m.1.spaces (space.Cell a) refl) k.2;
+            same = same_cells r.things (in_hand r.course.mail k.0) k.0.cells u (placed t us) (λ a. m.1.spaces (space.Cell a) refl) k.2;
             stands = stands_after b t us u m.1 whole keeps here.stands;
           },
         )
@@ -190,15 +192,23 @@ module _ (most : ℕ) (r : Round) (is_round : IsRound most r) where
         let at_end : IsAt r.number (length r.block.instrs) x = subst (λ (k : ℕ). IsAt r.number k x) place_is here.is_at in
         let behind : slice_get r.block.instrs (length r.block.instrs) ≡ None = slice_get_past r.block.instrs (length r.block.instrs) (omega arith) in
         let long : length (t (space.Slot (last_slot at end))) ≡ 64 = subst (λ (q : SlotRef). length (t (space.Slot q)) ≡ 64) (sym place_of_last) (ends_long es es at t (last_primed t here.stands.primed)) in
-        left_by at_end behind (runs view at es t) (part_effect at (end_part r.first end) view t) refl (last_part.does view sees t here.stands.whole here.stands.room (last_primed t here.stands.primed)) (last_part.tame.whole view sees t here.stands.whole) (end_follows r.course.number r.course.words r.course.graph r.things r.first r.number r.block is_round.there x at_end behind view number t here.stands.whole here.same at end refl is_round.fits.end_fits is_round.small.end long) (end_keeps r.first end at view t)
+        left_by at_end behind (runs view at es t) (part_effect at (end_part r.first end) view t) refl (last_part.does view sees t here.stands.whole here.stands.room (last_primed t here.stands.primed))
+        (last_part.tame.whole view sees t here.stands.whole)
+        (end_follows r.course.number r.course.mail r.course.graph r.things r.first r.number r.block is_round.there x at_end behind view number t here.stands.whole here.same at end refl is_round.fits.end_fits is_round.small.end long)
+        (end_keeps r.first end at view t)
       where
-        left_by : (at_end : IsAt r.number (length r.block.instrs) x) (behind : slice_get r.block.instrs (length r.block.instrs) ≡ None) (o : Outcome) (one : Effect) → part_effect at (end_part r.first end) view t ≡ one → Meets at es t o one → LeavesWhole one → AfterEnd r.course.number r.course.words r.course.graph r.things r.first r.number r.block is_round.there x at_end behind (last_slot at end) t one → Keeps t one → LeftBy r.course (AtEnd r b) false x t o
+        left_by : (at_end : IsAt r.number (length r.block.instrs) x) (behind : slice_get r.block.instrs (length r.block.instrs) ≡ None) (o : Outcome) (one : Effect) → part_effect at (end_part r.first end) view t ≡ one →
+            Meets at es t o one → LeavesWhole one → AfterEnd r.course.number r.course.mail r.course.graph r.things r.first r.number r.block is_round.there x at_end behind (last_slot at end) t one → Keeps t one → LeftBy r.course
+            (AtEnd r b) false x t o
         left_by at_end behind (Went us shown) (Leaves u events) is m whole k keeps = (
           k.0,
           subst (λ (l : List Obs). Rest r.course false x l k.0) (sym m.0) k.1,
           record {
-            same = same_cells r.things r.course.words k.0.cells u (placed t us) (λ a. m.1.spaces (space.Cell a) refl) k.2;
-            over = over_there end b t u (placed t us) k.0 (m.1.spaces (space.Slot (last r)) free) here.stands.descriptors (end_leads r.course.number r.course.words r.course.graph r.things r.first r.number r.block is_round.there x at_end behind view t here.same at end refl is_round.fits.end_fits is_round.small.end u events is k.0 k.1) (subst (λ (q : SlotRef). IsOver r.first q t k.0 u) h.last_there k.3);
+            same = same_cells r.things (in_hand r.course.mail k.0) k.0.cells u (placed t us) (λ a. m.1.spaces (space.Cell a) refl) k.2;
+            over =
+                over_there end b t u (placed t us) k.0 (m.1.spaces (space.Slot (last r)) free) here.stands.descriptors
+                (end_leads r.course.number r.course.mail r.course.graph r.things r.first r.number r.block is_round.there x at_end behind view t here.same at end refl is_round.fits.end_fits is_round.small.end u events is k.0 k.1)
+                (subst (λ (q : SlotRef). IsOver r.first q t k.0 u) h.last_there k.3);
             stands = last_stands b t us u m.1 whole keeps here.stands;
           },
         )

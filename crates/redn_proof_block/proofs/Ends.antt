@@ -5,7 +5,7 @@ use Rattle.std.proofs.lemmas.Bool.{true≢false}
 use Rattle.std.proofs.lemmas.List.{append-nil, get_or-append-add}
 use Rattle.redn_graph.specs.declared.types.Instr.{Instr}
 use Rattle.redn_graph.specs.declared.types.End.{End}
-use Rattle.redn_graph.specs.declared.types.End.TheVariants.{Jump, Test48, Test64, Probe, Reply}
+use Rattle.redn_graph.specs.declared.types.End.TheVariants.{Reply}
 use Rattle.redn_graph.specs.Run.{GraphState}
 use Rattle.redn_segment.specs.declared.types.SlotRef.{SlotRef}
 use Rattle.redn_segment.specs.declared.types.Draft.{Draft}

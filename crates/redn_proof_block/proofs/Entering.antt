@@ -12,7 +12,7 @@ use Rattle.redn_segment.specs.declared.types.Space.TheVariants as space
 use Rattle.redn_segment.specs.declared.types.Draft.{Draft}
 use Rattle.redn_segment.specs.Sites.{same_space}
 use Rattle.redn_segment.specs.Building.{drafts_of}
-use Rattle.redn_segment.specs.Plain.{Bytes, placed, Outcome, Went, Faults, Bad, runs}
+use Rattle.redn_segment.specs.Plain.{Bytes, placed, Outcome, Went, runs}
 use Rattle.redn_segment.specs.Primed.{Primed}
 use Rattle.redn_segment.specs.Renaming.{renamed_space}
 use Rattle.redn_proof_landing.specs.Segments.{slot_space}

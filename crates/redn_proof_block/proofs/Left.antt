@@ -45,41 +45,41 @@ module _ (c : Course) where
       left_silent us goes w number sees = silent_by us (runs w behind es (placed t us)) (with_view w number sees us [] goes)
 
       -- events were shown
-      steps_split : (l m : List Obs) (y z : GraphState) → EventSteps c.number c.words c.graph y (l ++ m) z → (w : GraphState) × EventSteps c.number c.words c.graph y l w × EventSteps c.number c.words c.graph w m z
+      steps_split : (l m : List Obs) (y z : GraphState) → EventSteps c.number c.mail c.graph y (l ++ m) z → (w : GraphState) × EventSteps c.number c.mail c.graph y l w × EventSteps c.number c.mail c.graph w m z
       steps_split [] m y z h = (y, refl, h)
       steps_split (e ∷ l) m y z h = let r = steps_split l m h.0 z h.2 in (r.0, (h.0, h.1, r.1), r.2)
 
-      rest_steps : (b : Bool) (e : Obs) (l m : List Obs) (z : GraphState) → Rest c b x (e ∷ (l ++ m)) z → (w : GraphState) × EventSteps c.number c.words c.graph x (e ∷ l) w × EventSteps c.number c.words c.graph w m z
+      rest_steps : (b : Bool) (e : Obs) (l m : List Obs) (z : GraphState) → Rest c b x (e ∷ (l ++ m)) z → (w : GraphState) × EventSteps c.number c.mail c.graph x (e ∷ l) w × EventSteps c.number c.mail c.graph w m z
       rest_steps true e l m z h = steps_split (e ∷ l) m x z h
       rest_steps false e l m z h = steps_split (e ∷ l) m x z h
 
       -- they lead to one state
-      steps_one : (l : List Obs) (y w z : GraphState) → AllTrue c.number u l → EventSteps c.number c.words c.graph y l w → EventSteps c.number c.words c.graph y l z → w ≡ z
+      steps_one : (l : List Obs) (y w z : GraphState) → AllTrue c.number u l → EventSteps c.number c.mail c.graph y l w → EventSteps c.number c.mail c.graph y l z → w ≡ z
       steps_one [] y w z is h k = sym h ∙ k
       steps_one (e ∷ l) y w z is h k =
           let same : h.0 ≡ k.0 = tells_one y h.0 k.0 e (tables_for u e) (true_of u e is.0) h.1 k.1 in
-          steps_one l k.0 w z is.1 (subst (λ (g : GraphState). EventSteps c.number c.words c.graph g l w) same h.2) k.2
+          steps_one l k.0 w z is.1 (subst (λ (g : GraphState). EventSteps c.number c.mail c.graph g l w) same h.2) k.2
 
       -- where the events lead
       module _ (us : List Put) (e : Obs) (l : List Obs) (goes : runs first at ds t ≡ Went us (e ∷ l)) where
         all_seen : AllTrue c.number u (e ∷ l)
         all_seen = runs_true c.number u ds at t us (e ∷ l) goes
 
-        told_by : (o : Outcome) → LeftBy c Then ahead x t (after us (e ∷ l) o) → (y : GraphState) × EventSteps c.number c.words c.graph x (e ∷ l) y
+        told_by : (o : Outcome) → LeftBy c Then ahead x t (after us (e ∷ l) o) → (y : GraphState) × EventSteps c.number c.mail c.graph x (e ∷ l) y
         told_by (Went vs m) h = let r = rest_steps ahead e l m h.0 h.1 in (r.0, r.1)
         told_by (Faults vs m) h = let r = rest_steps ahead e l m h.0 h.1 in (r.0, r.1)
         told_by Bad h = absurd h
 
-        pub events_lead : (y : GraphState) × EventSteps c.number c.words c.graph x (e ∷ l) y
+        pub events_lead : (y : GraphState) × EventSteps c.number c.mail c.graph x (e ∷ l) y
         events_lead = told_by (runs first behind es (placed t us)) (with_view first refl (λ q k. bytes k) us (e ∷ l) goes)
 
-        event_by : (y : GraphState) → EventSteps c.number c.words c.graph x (e ∷ l) y → (o : Outcome) → LeftBy c Then ahead x t (after us (e ∷ l) o) → LeftBy c Then true y (placed t us) o
+        event_by : (y : GraphState) → EventSteps c.number c.mail c.graph x (e ∷ l) y → (o : Outcome) → LeftBy c Then ahead x t (after us (e ∷ l) o) → LeftBy c Then true y (placed t us) o
         event_by y steps (Went vs m) h =
             let r = rest_steps ahead e l m h.0 h.1 in
-            (h.0, subst (λ (w : GraphState). EventSteps c.number c.words c.graph w m h.0) (steps_one (e ∷ l) x r.0 y all_seen r.1 steps) r.2, subst (Then h.0) (placed_append us vs t) h.2)
+            (h.0, subst (λ (w : GraphState). EventSteps c.number c.mail c.graph w m h.0) (steps_one (e ∷ l) x r.0 y all_seen r.1 steps) r.2, subst (Then h.0) (placed_append us vs t) h.2)
         event_by y steps (Faults vs m) h =
             let r = rest_steps ahead e l m h.0 h.1 in
-            (h.0, subst (λ (w : GraphState). EventSteps c.number c.words c.graph w m h.0) (steps_one (e ∷ l) x r.0 y all_seen r.1 steps) r.2, h.2)
+            (h.0, subst (λ (w : GraphState). EventSteps c.number c.mail c.graph w m h.0) (steps_one (e ∷ l) x r.0 y all_seen r.1 steps) r.2, h.2)
         event_by y steps Bad h = h
 
         pub left_events : IsLeftOf c Then true events_lead.0 behind es (placed t us)

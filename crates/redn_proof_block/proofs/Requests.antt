@@ -1,10 +1,10 @@
 -- A slot that has its request is primed.
 use Rattle.std.proofs.Common.{◌≡◌, inl, inr, ℕ, suc, ◌+◌, ◌-◌, ◌<◌, ◌≤◌, Bool, true, false, cond, ◌&&◌, List, [], ◌∷◌, length, Some, drop, refl, sym, ap, ◌∙◌, subst, arith}
-use Rattle.std.specs.Prelude.{slice_get, slice_index, get_or, nat_le, nat_lt}
-use Rattle.std.proofs.lemmas.Bool.{and_parts, or_cases, false≢true, leb-true, ltb-true}
+use Rattle.std.specs.Prelude.{slice_get, slice_index, get_or, nat_lt}
+use Rattle.std.proofs.lemmas.Bool.{and_parts, or_cases, false≢true, ltb-true}
 use Rattle.std.proofs.lemmas.List.{get_or-drop, get_or-take}
 use Rattle.redn_words.specs.declared.types.Opcode.{Opcode}
-use Rattle.redn_words.specs.declared.types.Opcode.TheVariants.{Noop, Write, Read, Cas, Add, Send, Wait, Enable, Undefined}
+use Rattle.redn_words.specs.declared.types.Opcode.TheVariants.{Send}
 use Rattle.redn_words.specs.Requests.{encoded}
 use Rattle.redn_words.specs.Words.{bytes_at, spelled}
 use Rattle.redn_segment.specs.declared.types.SlotRef.{SlotRef}

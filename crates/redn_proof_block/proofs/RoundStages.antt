@@ -4,10 +4,10 @@ use Rattle.std.proofs.lemmas.Bool.{false≢true}
 use Rattle.std.proofs.lemmas.List.{append-nil}
 use Rattle.redn_kernel.specs.declared.types.Cell.TheVariants as cell
 use Rattle.redn_graph.specs.declared.types.Instr.{Instr}
-use Rattle.redn_graph.specs.declared.types.Instr.TheVariants.{Set, Move, Add, Load, Store}
+use Rattle.redn_graph.specs.declared.types.Instr.TheVariants.{Set, Add}
 use Rattle.redn_graph.specs.declared.types.End.{End}
-use Rattle.redn_graph.specs.declared.types.End.TheVariants.{Jump, Test48, Test64, Probe, Reply}
-use Rattle.redn_graph.specs.Run.{GraphState}
+use Rattle.redn_graph.specs.declared.types.End.TheVariants.{Jump, Reply}
+use Rattle.redn_graph.specs.Run.{GraphState, in_hand}
 use Rattle.redn_segment.specs.declared.types.SlotRef.{SlotRef}
 use Rattle.redn_segment.specs.declared.types.Space.{Space}
 use Rattle.redn_segment.specs.declared.types.Space.TheVariants as space
@@ -126,7 +126,7 @@ module _ (r : Round) (most : ℕ) (is_round : IsRound most r) (b : Bytes) where
         descriptors = λ ring. h.descriptors ring;
       }
 
-  same_tabled : (z : GraphState) (t u : Bytes) → Same r.things r.course.words z.cells t → Same r.things r.course.words z.cells (tabled t u)
+  same_tabled : (z : GraphState) (t u : Bytes) → Same r.things (in_hand r.course.mail z) z.cells t → Same r.things (in_hand r.course.mail z) z.cells (tabled t u)
   same_tabled z t u h = record { many = h.many; cells = λ a is small. h.cells a is small }
 
   goes_tabled : (z : GraphState) (t u : Bytes) → GoesOn r b z t → GoesOn r b z (tabled t u)

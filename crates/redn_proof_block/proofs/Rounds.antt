@@ -8,7 +8,7 @@ use Rattle.redn_kernel.specs.declared.types.Cell.TheVariants as cell
 use Rattle.redn_graph.specs.declared.types.Instr.{Instr}
 use Rattle.redn_graph.specs.declared.types.Instr.TheVariants.{Set, Move, Add, Load, Store}
 use Rattle.redn_graph.specs.declared.types.End.{End}
-use Rattle.redn_graph.specs.declared.types.End.TheVariants.{Jump, Test48, Test64, Probe, Reply}
+use Rattle.redn_graph.specs.declared.types.End.TheVariants.{Jump, Probe, Reply}
 use Rattle.redn_graph.specs.Fits as fits
 use Rattle.redn_graph.specs.Fits.{Things, FitsInstr, FitsEnd}
 use Rattle.redn_segment.specs.Effects.{IsTarget}

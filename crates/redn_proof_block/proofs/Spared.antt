@@ -4,13 +4,13 @@ use Rattle.std.specs.List.{list_all}
 use Rattle.std.proofs.lemmas.Bool.{and_parts, and_from, or_cases, false≢true, false_from_ne_true}
 use Rattle.std.proofs.lemmas.List.{append-nil}
 use Rattle.redn_words.specs.declared.types.Opcode.{Opcode}
-use Rattle.redn_words.specs.declared.types.Opcode.TheVariants.{Noop, Write, Read, Cas, Add, Send, Wait, Enable, Undefined}
+use Rattle.redn_words.specs.declared.types.Opcode.TheVariants.{Wait, Enable, Undefined}
 use Rattle.redn_kernel.specs.declared.types.Cell.{Cell}
 use Rattle.redn_kernel.specs.declared.types.Cell.TheVariants as cell
 use Rattle.redn_graph.specs.declared.types.Instr.{Instr}
 use Rattle.redn_graph.specs.declared.types.Instr.TheVariants as instr
 use Rattle.redn_graph.specs.declared.types.End.{End}
-use Rattle.redn_graph.specs.declared.types.End.TheVariants.{Jump, Test48, Test64, Probe, Reply}
+use Rattle.redn_graph.specs.declared.types.End.TheVariants.{Reply}
 use Rattle.redn_segment.specs.declared.types.SlotRef.{SlotRef}
 use Rattle.redn_segment.specs.declared.types.Space.{Space}
 use Rattle.redn_segment.specs.declared.types.Space.TheVariants as space

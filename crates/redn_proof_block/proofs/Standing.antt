@@ -1,16 +1,16 @@
 -- What parts leave standing.
-use Rattle.std.proofs.Common.{◌≡◌, ℕ, suc, ◌+◌, Bool, true, false, ◌||◌, List, [], ◌∷◌, ◌++◌, length, refl, sym, ap, ◌∙◌, subst, arith}
+use Rattle.std.proofs.Common.{◌≡◌, ℕ, ◌+◌, false, List, [], ◌∷◌, ◌++◌, length, refl, sym, ap, ◌∙◌, subst, arith}
 use Rattle.std.specs.Prelude.{slice_index}
-use Rattle.std.proofs.lemmas.Bool.{false≢true, false_from_ne_true, or_parts as neither}
+use Rattle.std.proofs.lemmas.Bool.{false_from_ne_true}
 use Rattle.redn_segment.specs.declared.types.SlotRef.{SlotRef}
 use Rattle.redn_segment.specs.declared.types.Space.TheVariants as space
 use Rattle.redn_segment.specs.declared.types.Draft.{Draft}
 use Rattle.redn_segment.specs.Sites.{next_slot}
 use Rattle.redn_segment.specs.Plain.{Bytes, View, Put, placed}
-use Rattle.redn_segment.specs.Primed.{IsPrimed, Primed, IsBytes, IsWhole, writes_at, writes_slot}
+use Rattle.redn_segment.specs.Primed.{IsPrimed, Primed, IsBytes, IsWhole, writes_slot}
 use Rattle.redn_segment.specs.Effects.{Effect, IsLeft, is_own, slot_behind}
 use Rattle.redn_segment.specs.Parts.{IsPart}
-use Rattle.redn_segment.proofs.Composing.{Owns, lies_from, lies_to, primed_behind, primed_first, writes_both, primed_by}
+use Rattle.redn_segment.proofs.Composing.{Owns, lies_from, primed_behind, primed_first, writes_both, primed_by}
 
 -- the second of two parts is primed where both are
 module _ (at : SlotRef) (ds es : List Draft) (more : ℕ) (first second : View → Bytes → Effect) (p : IsPart at ds 0 first) (r : IsPart (slot_behind at (length ds)) es more second) where

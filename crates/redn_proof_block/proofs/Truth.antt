@@ -7,11 +7,11 @@ use Rattle.redn_words.specs.declared.types.Kind.TheVariants as kind
 use Rattle.redn_words.specs.declared.types.Origin.{Origin}
 use Rattle.redn_words.specs.declared.types.Request.{Request}
 use Rattle.redn_words.specs.declared.types.Opcode.{Opcode}
-use Rattle.redn_words.specs.declared.types.Opcode.TheVariants.{Noop, Write, Read, Cas, Add, Send, Wait, Enable, Undefined}
+use Rattle.redn_words.specs.declared.types.Opcode.TheVariants.{Write, Read, Cas, Add, Send}
 use Rattle.redn_words.specs.declared.types.Obs.{Obs}
 use Rattle.redn_words.specs.declared.types.Obs.TheVariants as shows
 use Rattle.redn_words.specs.Words.{bytes_at, word, spelled}
-use Rattle.redn_words.specs.Landings.{when, odd, write_to, write_shows, read_into_vars, read_hidden, read_shows, add_to, add_shows, send_shows, sum_of, is_hidden, reply_words}
+use Rattle.redn_words.specs.Landings.{when, write_to, write_shows, read_into_vars, read_hidden, read_shows, add_to, add_shows, send_shows, sum_of, is_hidden, reply_words}
 use Rattle.redn_words.proofs.Numbers.{number-bytes_at}
 use Rattle.redn_kernel.specs.declared.types.Cell.TheVariants as cell
 use Rattle.redn_segment.specs.declared.types.Site.{Site}
@@ -20,7 +20,7 @@ use Rattle.redn_segment.specs.declared.types.Space.{Space}
 use Rattle.redn_segment.specs.declared.types.Space.TheVariants as space
 use Rattle.redn_segment.specs.declared.types.Draft.{Draft}
 use Rattle.redn_segment.specs.Sites.{space_of, is_table, kind_of, offset_of, inside}
-use Rattle.redn_segment.specs.Plain.{Bytes, Put, Outcome, Went, Faults, Bad, with_event, acts, fits, reaches, past_table, is_atomic, is_length, request_of, origin, local_space, remote_space, local_bytes, remote_bytes, remote_at, to_local, to_remote, first_in, swap}
+use Rattle.redn_segment.specs.Plain.{Bytes, Put, Outcome, Went, Bad, with_event, acts, fits, reaches, past_table, is_atomic, is_length, request_of, origin, local_space, remote_space, local_bytes, remote_bytes, remote_at, to_local, to_remote, first_in, swap}
 use Rattle.redn_proof_block.specs.Truth.{IsTrueBy}
 use Rattle.redn_segment.proofs.PutSides.{not_past as past_stays}
 

@@ -5,7 +5,7 @@ use Rattle.std.proofs.lemmas.List.FromFn.{get_or-map-range_with_len}
 use Rattle.redn_words.specs.Words.{word, spelled}
 use Rattle.redn_words.specs.Landings.{sum_of}
 use Rattle.redn_words.specs.declared.types.Opcode.{Opcode}
-use Rattle.redn_words.specs.declared.types.Opcode.TheVariants.{Noop, Write, Read, Cas, Add, Send, Wait, Enable, Undefined}
+use Rattle.redn_words.specs.declared.types.Opcode.TheVariants.{Write, Read, Cas, Add, Send}
 use Rattle.std.specs.List.{range_with_len}
 use Rattle.redn_words.specs.declared.types.Obs.{Obs}
 use Rattle.redn_words.specs.declared.types.Obs.TheVariants as shows
@@ -14,11 +14,11 @@ use Rattle.redn_segment.specs.declared.types.SlotRef.{SlotRef}
 use Rattle.redn_segment.specs.declared.types.Space.TheVariants as space
 use Rattle.redn_segment.specs.declared.types.Draft.{Draft}
 use Rattle.redn_segment.specs.Sites.{next_slot, is_table, inside}
-use Rattle.redn_segment.specs.Plain.{Bytes, View, Put, placed, Outcome, Went, Faults, Bad, after, follow, seeing, step, acts, opcode_in, runs, with_event, fits, reaches, is_atomic, is_length, request_of, to_local, to_remote, swap, first_in, local_bytes, remote_bytes}
+use Rattle.redn_segment.specs.Plain.{Bytes, View, Put, placed, Outcome, Went, after, follow, seeing, step, acts, opcode_in, runs, with_event, fits, reaches, is_atomic, is_length, request_of, to_local, to_remote, swap, first_in, local_bytes, remote_bytes}
 use Rattle.redn_segment.specs.Primed.{IsBytes, SeesBytes}
-use Rattle.redn_segment.specs.Effects.{is_own, slot_behind}
+use Rattle.redn_segment.specs.Effects.{is_own}
 use Rattle.redn_segment.proofs.PutSides.{went_if, went_reach}
-use Rattle.redn_segment.proofs.Composing.{Owns, lies_from, lies_to, not_owns, apart as behind_other}
+use Rattle.redn_segment.proofs.Composing.{Owns, lies_from, lies_to}
 use Rattle.redn_proof_ring.specs.Runs.{own_view}
 use Rattle.redn_block.specs.Plays.{IsTrueOf}
 use Rattle.redn_proof_block.specs.Truth.{IsTrueBy}

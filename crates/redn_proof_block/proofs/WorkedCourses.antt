@@ -33,7 +33,7 @@ abbrev laying : Layout → Laying
 laying x =
     record {
       layout = record x { first_queue = 5; rings = 1; segments = λ (r : ℕ). block_segments 5 r block };
-      course = record { number = 2; words = []; graph = graph };
+      course = record { number = 2; mail = record { words = [] }; graph = graph };
       things = record { blocks = 1; hidden = 0; vars = 1; args = 0; tables = [] };
       written = [];
     }

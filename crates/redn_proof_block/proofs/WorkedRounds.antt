@@ -17,7 +17,7 @@ abbrev graph : Graph
 graph = record { blocks = record { instrs = instr.Add (Var 0) (Var 1) ∷ []; end = end.Jump 0 } ∷ []; entry = 0; hidden = 0 }
 
 abbrev course : Course
-course = record { number = 2; words = []; graph = graph }
+course = record { number = 2; mail = record { words = [] }; graph = graph }
 
 abbrev at : ℕ → ℕ → GraphState
 at place x = record { block = 0; place = place; taking = false; cells = record { vars = x ∷ 5 ∷ []; hidden = λ (k : ℕ). 0 }; ended = false }

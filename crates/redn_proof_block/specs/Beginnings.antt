@@ -5,7 +5,7 @@ use Rattle.redn_kernel.specs.declared.types.Cell.{Cell}
 use Rattle.redn_kernel.specs.declared.types.Cell.TheVariants as cell
 use Rattle.redn_kernel.specs.CoreRun.{held}
 use Rattle.redn_graph.specs.Fits.{IsCell}
-use Rattle.redn_graph.specs.Run.{GraphState}
+use Rattle.redn_graph.specs.Run.{GraphState, in_hand}
 use Rattle.redn_segment.specs.declared.types.Space.TheVariants as space
 use Rattle.redn_segment.specs.declared.types.Draft.{Draft}
 use Rattle.redn_segment.specs.Plain.{Bytes}
@@ -44,9 +44,11 @@ module _ (l : Laying) where
   pub record Begins (v : ℕ) (y : GraphState) (m : List ℕ) : Type 0 where
     pub size : length m ≡ l.layout.size
     pub sound : IsBytes m
-    pub drafts : (r j k : ℕ) (d : Draft) → is_ring (plan l) r ≡ true → j < ((plan l).ring r).segments → IsBody (plan l) r j k d → IsReady ((plan l).written r (body_slot (plan l) r j k)) (body_request (plan l) r j k d) (seen_in l.layout.home m (slot_space r (body_slot (plan l) r j k)))
+    pub drafts : (r j k : ℕ) (d : Draft) → is_ring (plan l) r ≡ true → j < ((plan l).ring r).segments → IsBody (plan l) r j k d →
+        IsReady ((plan l).written r (body_slot (plan l) r j k)) (body_request (plan l) r j k d)
+        (seen_in l.layout.home m (slot_space r (body_slot (plan l) r j k)))
     pub is_at : IsAt (number_at l v) 0 y
     pub many : length y.cells.vars ≡ l.things.vars
     pub cells : (a : Cell) → IsCell l.things a → is_number a ≡ false
-        → (l.layout.mine (space.Cell a) ≡ true) × (word_of (seen_in l.layout.home m) a ≡ held l.course.words y.cells a)
+        → (l.layout.mine (space.Cell a) ≡ true) × (word_of (seen_in l.layout.home m) a ≡ held (in_hand l.course.mail y) y.cells a)
     pub numbers : (n : ℕ) → l.layout.mine (space.Cell (cell.Num n)) ≡ true → seen_in l.layout.home m (space.Cell (cell.Num n)) ≡ spelled 8 n

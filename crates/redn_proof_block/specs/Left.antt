@@ -2,27 +2,27 @@
 use Rattle.std.specs.Prelude.{◌≡◌, ℕ, Bool, true, false, List}
 use Rattle.redn_words.specs.declared.types.Obs.{Obs}
 use Rattle.redn_graph.specs.declared.types.Graph.{Graph}
-use Rattle.redn_graph.specs.Run.{GraphState}
+use Rattle.redn_graph.specs.Run.{Mail, GraphState}
 use Rattle.redn_segment.specs.declared.types.SlotRef.{SlotRef}
 use Rattle.redn_segment.specs.declared.types.Draft.{Draft}
 use Rattle.redn_segment.specs.Plain.{Bytes, View, placed, Outcome, Went, Faults, Bad, runs}
 use Rattle.redn_segment.specs.Primed.{SeesBytes}
 use Rattle.redn_block.specs.Plays.{StepTells, EventSteps, Leads}
 
--- a chain, the words of its message, and its graph
+-- a chain, its mail, and its graph
 pub record Course : Type 0 where
   pub number : ℕ
-  pub words : List ℕ
+  pub mail : Mail
   pub graph : Graph
 
 module _ (c : Course) where
   abbrev pub Tells : GraphState → Obs → GraphState → Type 0
-  Tells = StepTells c.number c.words c.graph
+  Tells = StepTells c.number c.mail c.graph
 
   -- the steps that are left of it: one that shows nothing, or one for each event. Where it has shown an event already, `ahead`, only such are left
   abbrev pub Rest : Bool → GraphState → List Obs → GraphState → Type 0
-  Rest false x events z = Leads c.number c.words c.graph x events z
-  Rest true x events z = EventSteps c.number c.words c.graph x events z
+  Rest false x events z = Leads c.number c.mail c.graph x events z
+  Rest true x events z = EventSteps c.number c.mail c.graph x events z
 
   abbrev pub Falls : Bool → GraphState → List Obs → Type 0
   Falls ahead x events = (z : GraphState) × Rest ahead x events z × (z.ended ≡ true)

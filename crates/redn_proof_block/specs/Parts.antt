@@ -4,7 +4,7 @@ use Rattle.redn_graph.specs.declared.types.Block.{Block}
 use Rattle.redn_graph.specs.declared.types.End.{End}
 use Rattle.redn_graph.specs.declared.types.End.TheVariants.{Reply}
 use Rattle.redn_graph.specs.Fits.{Things, FitsBlock}
-use Rattle.redn_graph.specs.Run.{GraphState}
+use Rattle.redn_graph.specs.Run.{GraphState, in_hand}
 use Rattle.redn_segment.specs.declared.types.SlotRef.{SlotRef}
 use Rattle.redn_segment.specs.declared.types.Draft.{Draft}
 use Rattle.redn_segment.specs.declared.types.Space.TheVariants as space
@@ -76,7 +76,7 @@ module _ (r : Round) where
 
   pub record AtPart (b : Bytes) (place : ℕ) (x : GraphState) (t : Bytes) : Type 0 where
     pub is_at : IsAt r.number place x
-    pub same : Same r.things r.course.words x.cells t
+    pub same : Same r.things (in_hand r.course.mail x) x.cells t
     pub stands : Stands b t
 
   -- the graph is at the beginning of one of its blocks, and the last ENABLE has the descriptor of that block's ring
@@ -92,6 +92,6 @@ module _ (r : Round) where
 
   -- after the end of the block
   pub record AtEnd (b : Bytes) (z : GraphState) (t : Bytes) : Type 0 where
-    pub same : Same r.things r.course.words z.cells t
+    pub same : Same r.things (in_hand r.course.mail z) z.cells t
     pub over : EndsAs r.block.end b z t
     pub stands : Stands b t

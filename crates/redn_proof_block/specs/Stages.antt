@@ -22,7 +22,7 @@ pub record Ghost : Type 0 where
 abbrev pub Tells : Course → Bool → Ghost → List Obs → Ghost → Type 0
 Tells c true y events z = Rest c y.ahead y.state events z.state × (z.ahead ≡ false)
 Tells c false y [] z = z ≡ y
-Tells c false y (e ∷ l) z = EventSteps c.number c.words c.graph y.state (e ∷ l) z.state × (z.ahead ≡ true)
+Tells c false y (e ∷ l) z = EventSteps c.number c.mail c.graph y.state (e ∷ l) z.state × (z.ahead ≡ true)
 
 module _ (r : Round) where
   -- whatever the tables are, here the block goes on, or is over
@@ -47,7 +47,9 @@ module _ (r : Round) where
   Follows b [] told at y t = Done b y.state t × (y.ahead ≡ false)
   Follows b (here ∷ later) [] at y t = ⊥
   Follows b (here ∷ later) (m ∷ told) at y t =
-      Starts m.opens m.place y × ((u : Bytes) → HasBytes u → Comes (Follows b later told (slot_behind at (length here))) m.closes y (tabled t u) (runs (own_view r.course.number u) at here (tabled t u)))
+      Starts m.opens m.place y
+      × ((u : Bytes) → HasBytes u →
+      Comes (Follows b later told (slot_behind at (length here))) m.closes y (tabled t u) (runs (own_view r.course.number u) at here (tabled t u)))
 
 -- the segments of a block's ring follow its graph from the block's beginning
 abbrev pub SegmentsFollow : Type 0

@@ -1,5 +1,5 @@
 -- A window without gates sends, and ends the graph's chain.
-use Rattle.std.proofs.Common.{◌≡◌, ℕ, suc, ◌<◌, Bool, true, false, cond, List, [], ◌∷◌, ◌++◌, map, length, refl, sym, ap, ◌∙◌, subst, arith}
+use Rattle.std.proofs.Common.{◌≡◌, ℕ, suc, ◌<◌, true, List, [], ◌∷◌, ◌++◌, map, refl, sym, ap, ◌∙◌, subst, arith}
 use Rattle.std.specs.Prelude.{slice_get, Some}
 use Rattle.std.proofs.lemmas.Option.{slice_get_within}
 use Rattle.std.proofs.lemmas.Bool.{false≢true, and_parts, eqb-true}
@@ -16,7 +16,7 @@ use Rattle.redn_segment.specs.Orders.{is_send}
 use Rattle.redn_segment.specs.Renaming.{renamed}
 use Rattle.redn_segment.specs.Templates.{may_show, may_show_by}
 use Rattle.redn_block.specs.Blocks.{ring_start}
-use Rattle.redn_proof_window.specs.Windows.{Opening, bodies_of}
+use Rattle.redn_proof_window.specs.Windows.{Last, Opening, bodies_of}
 use Rattle.redn_proof_window.specs.Scripts.{Wrote}
 use Rattle.redn_proof_landing.specs.Homes.{seen_in, change_of}
 use Rattle.redn_recycle.specs.Laps.{is_send_last, is_last, lap_requests, bodies_of as ring_bodies}
@@ -25,7 +25,7 @@ use Rattle.redn_proof_ring.specs.Plans.{Plan, IsBody}
 use Rattle.redn_proof_ring.specs.Turns.{Meaning, Ready, HasBytes, slot_in, window_at}
 use Rattle.redn_proof_ring.proofs.LapNext.{seen_bytes}
 use Rattle.redn_proof_ring.proofs.LapEvent.{EventPuts, event_puts}
-use Rattle.redn_proof_ring.proofs.LapWindows.{bodies_count, gates_count}
+use Rattle.redn_proof_ring.proofs.LapWindows.{bodies_count, ends_or_gates}
 use Rattle.redn_proof_ring.proofs.Promised.{told_now}
 use Rattle.redn_proof_block.specs.Left as left
 use Rattle.redn_proof_block.specs.Stages.{Ghost}
@@ -42,10 +42,6 @@ use Rattle.redn_proof_chain.proofs.Events.{promises, turned_event, event_shape, 
 sent : (o : Opcode) → is_send o ≡ true → o ≡ Send
 sent Send e = refl
 sent _ e = absurd (false≢true e)
-
-gates_none : (b : Bool) → ◌≡◌ {A = ℕ} (cond b 0 2) 0 → b ≡ true
-gates_none true e = refl
-gates_none false e = absurd (omega (arith, e))
 
 -- a SEND alone is its segment's event
 alone_event : (d : Draft) → is_send d.op ≡ true → event_in (d ∷ []) ≡ 0
@@ -78,11 +74,10 @@ module _ (f : Formed) (h : IsFormed f) (x : Point f) (m : List ℕ) (ready : Rea
   abbrev slot : List ℕ
   slot = slot_in P s r j ev
 
-  module _ (none : length w.gates ≡ 0) where
+  module _ (ends : w.ending ≡ Last) where
     its_send : (d : Draft) × IsBody P r j ev d × (is_send d.op ≡ true)
     its_send =
-        let count = gates_count P h.laid G (promises f h) x m ready in
-        let last : is_send_last r (P.ring r) j ≡ true = gates_none (is_send_last r (P.ring r) j) (sym count ∙ none) in
+        let last : is_send_last r (P.ring r) j ≡ true = (ends_or_gates (is_send_last r (P.ring r) j)).1 ends in
         let parts = and_parts (P.ring r).sends (is_last r (P.ring r) j) last in
         let block : IsBlockRing f r = h.blocks r x.ring_in in
         let may : MaySend (f.layout.segments r) = subst MaySend (sym block.segments_are) (parts_send f.layout.first_queue (ring_start r) (block_at f r).instrs (block_at f r).end) in
@@ -139,5 +134,5 @@ module _ (f : Formed) (h : IsFormed f) (x : Point f) (m : List ℕ) (ready : Rea
       ended_here : (state_at f x (Some event)).ended ≡ true
       ended_here = by_shape (event_shape f h x m ready d e u ubytes its.puts its.events its.goes)
 
-  pub ends_here : length w.gates ≡ 0 → (w.event < bodies_of w) × ((event : List Change) → Wrote w event → (state_at f x (Some event)).ended ≡ true)
-  ends_here none = (inside none, λ event wrote. ended_here none (its_send none).0 (its_send none).1 (its_send none).2 event wrote)
+  pub ends_here : w.ending ≡ Last → (w.event < bodies_of w) × ((event : List Change) → Wrote w event → (state_at f x (Some event)).ended ≡ true)
+  ends_here ends = (inside ends, λ event wrote. ended_here ends (its_send ends).0 (its_send ends).1 (its_send ends).2 event wrote)

@@ -15,22 +15,22 @@ use Rattle.redn_proof_block.specs.Stages as stages
 use Rattle.redn_proof_chain.proofs.States.{step_leaves}
 
 -- a chain that shows an event runs
-pub still_runs : (c : Course) (t : List (List ℕ)) (x : GraphState) → (graph_step c.number c.words t x c.graph).event ≢ shows.Nothing → x.ended ≡ false
+pub still_runs : (c : Course) (t : List (List ℕ)) (x : GraphState) → (graph_step c.number c.mail t x c.graph).event ≢ shows.Nothing → x.ended ≡ false
 unfolding graph_step
 still_runs c t x some = by_end x.ended refl some
   where
-    by_end : (b : Bool) → x.ended ≡ b → (cond b (stays t x) (block_turn c.number c.words t x (slice_get c.graph.blocks x.block))).event ≢ shows.Nothing → x.ended ≡ false
+    by_end : (b : Bool) → x.ended ≡ b → (cond b (stays t x) (block_turn c.number c.mail t x (slice_get c.graph.blocks x.block))).event ≢ shows.Nothing → x.ended ≡ false
     by_end true e h = absurd (h refl)
     by_end false e h = e
 
 -- one that has ended stays where it is
-ended_stays : (c : Course) (t : List (List ℕ)) (x : GraphState) → x.ended ≡ true → (graph_step c.number c.words t x c.graph).state ≡ x
+ended_stays : (c : Course) (t : List (List ℕ)) (x : GraphState) → x.ended ≡ true → (graph_step c.number c.mail t x c.graph).state ≡ x
 unfolding graph_step
-ended_stays c t x e = ap (λ (b : Bool). (cond b (stays t x) (block_turn c.number c.words t x (slice_get c.graph.blocks x.block))).state) e
+ended_stays c t x e = ap (λ (b : Bool). (cond b (stays t x) (block_turn c.number c.mail t x (slice_get c.graph.blocks x.block))).state) e
 
 module _ (c : Course) where
   abbrev pub Going : Contents → GraphState → List Obs → Contents → GraphState → ℕ → ℕ → Type 0
-  Going = Goes GraphState (graph_machine c.number c.words c.graph)
+  Going = Goes GraphState (graph_machine c.number c.mail c.graph)
 
   -- no step
   pub go_none : (t : Contents) (x y : GraphState) (need have : ℕ) → x ≡ y → need ≤ have → Going t x [] t y need have
@@ -40,8 +40,8 @@ module _ (c : Course) where
   pub go_one : (t : Contents) (x : GraphState) (e : Obs) (z : GraphState) (need have : ℕ) → Tells c x e z → IsTrueOf t e → x.ended ≡ false → need ≤ have + step_cost c.graph z → Going t x (shown_then e []) (stored t e) z need have
   go_one t x e z need have tells is_true runs le =
       let turn = tells t is_true in
-      let state : (graph_step c.number c.words t x c.graph).state ≡ z = ap (λ (g : GraphTurn). g.state) turn in
-      let cost : step_cost c.graph (graph_step c.number c.words t x c.graph).state ≡ step_cost c.graph z = ap (step_cost c.graph) state in
+      let state : (graph_step c.number c.mail t x c.graph).state ≡ z = ap (λ (g : GraphTurn). g.state) turn in
+      let cost : step_cost c.graph (graph_step c.number c.mail t x c.graph).state ≡ step_cost c.graph z = ap (step_cost c.graph) state in
       record {
         steps = 1;
         go = (runs, tt);

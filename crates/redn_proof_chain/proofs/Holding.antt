@@ -40,22 +40,24 @@ other_space (space.Cell _) i e = refl
 other_space _ i e = refl
 
 -- one that only one body may hit is as that leaves it
-value_one : (marks : ℕ → Bool) (effects : ℕ → List Change) (n ev p before : ℕ) → ev < n → marks ev ≡ true → ((k : ℕ) → k < n → k ≢ ev → marks k ≡ true → hits (effects k) p ≡ false) → value marks effects n p before ≡ over (effects ev) p before
-value_one marks effects zero ev p before l landed h = absurd (omega (arith, l))
-value_one marks effects (suc n) ev p before l landed h =
+value_one : (written : ℕ → ℕ → Bool) (effects : ℕ → List Change) (n ev p before : ℕ) → ev < n → written ev p ≡ true → ((k : ℕ) → k < n → k ≢ ev → written k p ≡ true → hits (effects k) p ≡ false)
+    → value written effects n p before ≡ over (effects ev) p before
+value_one written effects zero ev p before l landed h = absurd (omega (arith, l))
+value_one written effects (suc n) ev p before l landed h =
     elim (cases_eq n ev) [
       | inl same ↦
-          let below : value marks effects n p before ≡ before = value_same marks effects n p before (λ k m e. h k (omega (arith, m)) (λ is. absurd (omega (arith, is, same, m))) e) in
-          let here : marks n ≡ true = ap marks same ∙ landed in
-          cond_true (marks n) (over (effects n) p (value marks effects n p before)) (value marks effects n p before) here ∙ ap (over (effects n) p) below ∙ ap (λ (k : ℕ). over (effects k) p before) same
-      | inr ne ↦ by_mark (value_one marks effects n ev p before (omega (arith, l, ne)) landed (λ k m other e. h k (omega (arith, m)) other e)) ne (marks n) refl
+          let below : value written effects n p before ≡ before = value_same written effects n p before (λ k m e. h k (omega (arith, m)) (λ is. absurd (omega (arith, is, same, m))) e) in
+          let here : written n p ≡ true = ap (λ (k : ℕ). written k p) same ∙ landed in
+          cond_true (written n p) (over (effects n) p (value written effects n p before)) (value written effects n p before) here ∙ ap (over (effects n) p) below ∙ ap (λ (k : ℕ). over (effects k) p before) same
+      | inr ne ↦ by_mark (value_one written effects n ev p before (omega (arith, l, ne)) landed (λ k m other e. h k (omega (arith, m)) other e)) ne (written n p) refl
     ]
   where
     cond_true : (b : Bool) (x y : ℕ) → b ≡ true → cond b x y ≡ x
     cond_true b x y e = rw e refl
 
-    by_mark : value marks effects n p before ≡ over (effects ev) p before → n ≢ ev → (b : Bool) → marks n ≡ b → cond b (over (effects n) p (value marks effects n p before)) (value marks effects n p before) ≡ over (effects ev) p before
-    by_mark rest ne true e = over_missed (effects n) p (value marks effects n p before) (h n (omega arith) ne e) ∙ rest
+    by_mark : value written effects n p before ≡ over (effects ev) p before → n ≢ ev → (b : Bool) → written n p ≡ b
+        → cond b (over (effects n) p (value written effects n p before)) (value written effects n p before) ≡ over (effects ev) p before
+    by_mark rest ne true e = over_missed (effects n) p (value written effects n p before) (h n (omega arith) ne e) ∙ rest
     by_mark rest ne false e = rest
 
 module _ (f : Formed) (h : IsFormed f) where
@@ -130,7 +132,7 @@ module _ (f : Formed) (h : IsFormed f) where
         effect_other : (e : List Change) (q : ℕ) → (q == ev) ≡ false → effect w e q ≡ (planned w q).writes
         effect_other e q g = rw g refl
 
-    module _ (n : List ℕ) (marks : ℕ → Bool) (event : List Change) (standing : Standing w n marks event) where
+    module _ (n : List ℕ) (written : ℕ → ℕ → Bool) (event : List Change) (standing : Standing w n written event) where
       var_ours : (i p : ℕ) → P.mine (space.Cell (Var i)) ≡ true → at i ≤ p → p < at i + 8 → P.ours p ≡ true
       var_ours i p mine low high =
           let its : IsPrivate P (space.Cell (Var i)) = record { its = mine; plain = refl } in
@@ -138,29 +140,32 @@ module _ (f : Formed) (h : IsFormed f) where
           ap P.ours k ∙ h.laid.private (space.Cell (Var i)) (p - at i) its (omega (arith, low, high))
 
       -- before the event's body has landed
-      pub kept : (i : ℕ) → P.mine (space.Cell (Var i)) ≡ true → (ev < bodies_of w → marks ev ≡ false) → bytes_at n (at i) 8 ≡ bytes_at m (at i) 8
+      pub kept : (i : ℕ) → P.mine (space.Cell (Var i)) ≡ true → (ev < bodies_of w → (p : ℕ) → written ev p ≡ false) → bytes_at n (at i) 8 ≡ bytes_at m (at i) 8
       kept i mine not_yet =
-          same_range n m (at i) 8 standing.size (λ p low high. standing.bytes p (var_ours i p mine low high) ∙ value_same marks (effect w event) (bodies_of w) p (byte m p) (λ k l e. elim (cases_eq k ev) [
-            | inl same ↦ absurd (false≢true (sym (not_yet (omega (arith, l, same))) ∙ ap marks (sym same) ∙ e))
+          same_range n m (at i) 8 standing.size (λ p low high. standing.bytes p (var_ours i p mine low high) ∙ value_same written (effect w event) (bodies_of w) p (byte m p) (λ k l e. elim (cases_eq k ev) [
+            | inl same ↦ absurd (false≢true (sym (not_yet (omega (arith, l, same)) p) ∙ ap (λ (q : ℕ). written q p) (sym same) ∙ e))
             | inr ne ↦ other_misses event k i p l ne mine low high
           ]))
 
       -- and once it has
-      pub landed : (i p : ℕ) → P.mine (space.Cell (Var i)) ≡ true → ev < bodies_of w → marks ev ≡ true → at i ≤ p → p < at i + 8 → byte n p ≡ over event p (byte m p)
+      pub landed : (i p : ℕ) → P.mine (space.Cell (Var i)) ≡ true → ev < bodies_of w → ((p : ℕ) → written ev p ≡ true) → at i ≤ p → p < at i + 8 → byte n p ≡ over event p (byte m p)
       landed i p mine inside_it mark low high =
           let here : (ev == ev) ≡ true = eq-eqb ev ev refl in
-          standing.bytes p (var_ours i p mine low high) ∙ value_one marks (effect w event) (bodies_of w) ev p (byte m p) inside_it mark (λ k l ne e. other_misses event k i p l ne mine low high) ∙ ap (λ (c : List Change). over c p (byte m p)) (effect_event here)
+          standing.bytes p (var_ours i p mine low high) ∙ value_one written (effect w event) (bodies_of w) ev p (byte m p) inside_it (mark p) (λ k l ne e. other_misses event k i p l ne mine low high)
+          ∙ ap (λ (c : List Change). over c p (byte m p)) (effect_event here)
         where
           effect_event : (ev == ev) ≡ true → effect w event ev ≡ event
           effect_event g = rw g refl
 
       -- a variable that the event's puts miss stays
-      pub landed_flat : (us : List Put) → event ≡ map (change_of P.home) us → (i : ℕ) → P.mine (space.Cell (Var i)) ≡ true → ev < bodies_of w → marks ev ≡ true → ((p : ℕ) → at i ≤ p → p < at i + 8 → hits (map (change_of P.home) us) p ≡ false) → bytes_at n (at i) 8 ≡ bytes_at m (at i) 8
+      pub landed_flat : (us : List Put) → event ≡ map (change_of P.home) us → (i : ℕ) → P.mine (space.Cell (Var i)) ≡ true → ev < bodies_of w → ((p : ℕ) → written ev p ≡ true)
+          → ((p : ℕ) → at i ≤ p → p < at i + 8 → hits (map (change_of P.home) us) p ≡ false) → bytes_at n (at i) 8 ≡ bytes_at m (at i) 8
       landed_flat us is i mine inside_it mark misses =
           same_range n m (at i) 8 standing.size (λ p low high. landed i p mine inside_it mark low high ∙ ap (λ (c : List Change). over c p (byte m p)) is ∙ over_missed (map (change_of P.home) us) p (byte m p) (misses p low high))
 
       -- and the one that it puts has the bytes
-      pub landed_set : (i : ℕ) (bytes : List ℕ) (rest : List Put) → event ≡ map (change_of P.home) (put (space.Cell (Var i)) 0 bytes ∷ rest) → length bytes ≡ 8 → P.mine (space.Cell (Var i)) ≡ true → ev < bodies_of w → marks ev ≡ true → VarFlat rest → Inside P.home P.mine rest → bytes_at n (at i) 8 ≡ bytes
+      pub landed_set : (i : ℕ) (bytes : List ℕ) (rest : List Put) → event ≡ map (change_of P.home) (put (space.Cell (Var i)) 0 bytes ∷ rest) → length bytes ≡ 8 → P.mine (space.Cell (Var i)) ≡ true → ev < bodies_of w
+          → ((p : ℕ) → written ev p ≡ true) → VarFlat rest → Inside P.home P.mine rest → bytes_at n (at i) 8 ≡ bytes
       landed_set i bytes rest is long mine inside_it mark flat ins =
           let room_in : at i + 8 ≤ P.size = h.laid.spaces.inside (space.Cell (Var i)) mine in
           let size = ready.size in

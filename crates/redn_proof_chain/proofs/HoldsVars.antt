@@ -93,7 +93,7 @@ module _ (b : Begun) (h : IsFormed b.formed) (variables : (i : ℕ) → i < leng
         ];
       }
 
-  module _ (x : Point f) (m : List ℕ) (ready : Ready P G x m) (has : HasVars b x.ghost.state m) (n : List ℕ) (marks : ℕ → Bool) (event : List Change) (standing : Standing (window_at P G x m) n marks event) where
+  module _ (x : Point f) (m : List ℕ) (ready : Ready P G x m) (has : HasVars b x.ghost.state m) (n : List ℕ) (written : ℕ → ℕ → Bool) (event : List Change) (standing : Standing (window_at P G x m) n written event) where
     abbrev r : ℕ
     r = x.ring
 
@@ -112,7 +112,7 @@ module _ (b : Begun) (h : IsFormed b.formed) (variables : (i : ℕ) → i < leng
     abbrev slot : List ℕ
     slot = slot_in P s r j ev
 
-    module _ (inside : ev < bodies_of w) (mark : marks ev ≡ true) (wrote : Wrote w event) (d : Draft) (e : IsBody P r j ev d) where
+    module _ (inside : ev < bodies_of w) (mark : (p : ℕ) → written ev p ≡ true) (wrote : Wrote w event) (d : Draft) (e : IsBody P r j ev d) where
       abbrev u : Bytes
       u = seen_in P.home wrote.memory
 
@@ -128,8 +128,8 @@ module _ (b : Begun) (h : IsFormed b.formed) (variables : (i : ℕ) → i < leng
       well : TellsWell f r j u x.ghost its.events told.0
       well = h.tells_well r j u x.ghost its.events told.0 x.ring_in x.segment_in told.1
 
-      written : event ≡ map (change_of P.home) its.puts
-      written = wrote.is ∙ its.lands.writes_are
+      wrote_puts : event ≡ map (change_of P.home) its.puts
+      wrote_puts = wrote.is ∙ its.lands.writes_are
 
       shape_here : Shape (opcode_in slot) its.puts its.events
       shape_here = event_shape f h x m ready d e u ubytes its.puts its.events its.goes
@@ -169,7 +169,7 @@ module _ (b : Begun) (h : IsFormed b.formed) (variables : (i : ℕ) → i < leng
               step_leaves f.course x.ghost.state o told.0.state step 0 (subst (λ (k : Obs). Reads k 0) same tt)
 
       kept_flat : VarFlat its.puts → (i : ℕ) → i < length b.vars → bytes_at n (at i) 8 ≡ bytes_at m (at i) 8
-      kept_flat flat i l = landed_flat f h x m ready n marks event standing its.puts written i (variables i l) inside mark (λ p low high. flat_misses f h its.puts i p (variables i l) flat all_inside low high)
+      kept_flat flat i l = landed_flat f h x m ready n written event standing its.puts wrote_puts i (variables i l) inside mark (λ p low high. flat_misses f h its.puts i p (variables i l) flat all_inside low high)
 
       abbrev Now : Type 0
       Now = HasVars b (state_at f x (Some (map (change_of P.home) its.puts))) n
@@ -184,19 +184,20 @@ module _ (b : Begun) (h : IsFormed b.formed) (variables : (i : ℕ) → i < leng
       by_cases (Behind_it o is same flag) (Sets i bytes rest q puts flat those set long) =
           let left_it = leaves q those in
           let ins : Inside P.home P.mine (put (space.Cell (Var i)) 0 bytes ∷ rest) = subst (Inside P.home P.mine) puts all_inside in
-          let put_is : event ≡ map (change_of P.home) (put (space.Cell (Var i)) 0 bytes ∷ rest) = written ∙ ap (map (change_of P.home)) puts in
+          let put_is : event ≡ map (change_of P.home) (put (space.Cell (Var i)) 0 bytes ∷ rest) = wrote_puts ∙ ap (map (change_of P.home)) puts in
           let sound : AreBytes (map (change_of P.home) (put (space.Cell (Var i)) 0 bytes ∷ rest)) = subst AreBytes (sym wrote.is ∙ put_is) (landing_bytes w.regions (origin_of w ev) (request_of w ev) wrote.memory wrote.sound) in
           let again : bytes ≡ spelled 8 (word bytes 0) = sym (spelled-number 8 bytes 0 (omega (arith, long)) (each_byte bytes sound.0) ∙ take_whole bytes 8 long) in
           has_set x.ghost.state (state_at f x (Some (map (change_of P.home) its.puts))) m n bytes i (ap (λ (y : GraphState). y.cells.vars) same ∙ vars_set i (word bytes 0) q x.ghost.state told.0.state set left_it.1) again (number_small 8 0 bytes sound.0)
-          (λ k l is_it. subst (λ (v : ℕ). bytes_at n (at v) 8 ≡ bytes) (sym is_it) (landed_set f h x m ready n marks event standing i bytes rest put_is long (subst (λ (v : ℕ). P.mine (space.Cell (Var v)) ≡ true) is_it (variables k l)) inside mark flat ins.1))
-          (λ k l ne. landed_flat f h x m ready n marks event standing (put (space.Cell (Var i)) 0 bytes ∷ rest) put_is k (variables k l) inside mark (λ p low high.
+          (λ k l is_it. subst (λ (v : ℕ). bytes_at n (at v) 8 ≡ bytes) (sym is_it) (landed_set f h x m ready n written event standing i bytes rest put_is long
+          (subst (λ (v : ℕ). P.mine (space.Cell (Var v)) ≡ true) is_it (variables k l)) inside mark flat ins.1))
+          (λ k l ne. landed_flat f h x m ready n written event standing (put (space.Cell (Var i)) 0 bytes ∷ rest) put_is k (variables k l) inside mark (λ p low high.
           ap (λ (c : Bool). c || hits (map (change_of P.home) rest) p) (covers_none f h (put (space.Cell (Var i)) 0 bytes) k p (variables k l) ins.0.0 ins.0.1 (ne_eqb i k (λ q. ne (sym q))) low high) ∙ flat_misses f h rest k p (variables k l) flat ins.1 low high)) has
 
       now : HasVars b (state_at f x (Some event)) n
-      now = subst (λ (c : List Change). HasVars b (state_at f x (Some c)) n) (sym written) (by_cases (stood f h x m ready d e u ubytes its.puts its.events its.goes told.0 told.1) varies_here)
+      now = subst (λ (c : List Change). HasVars b (state_at f x (Some c)) n) (sym wrote_puts) (by_cases (stood f h x m ready d e u ubytes its.puts its.events its.goes told.0 told.1) varies_here)
 
-    pub holds_at : (told : Option (List Change)) → (marks ev ≡ true → ev < bodies_of w → Wrote w event) → IsTold w marks event told → HasVars b (state_at f x told) n
-    holds_at None wrote is = has_same x.ghost.state x.ghost.state m n refl (λ i l. kept f h x m ready n marks event standing i (variables i l) is) has
+    pub holds_at : (told : Option (List Change)) → (((p : ℕ) → written ev p ≡ true) → ev < bodies_of w → Wrote w event) → IsTold w written event told → HasVars b (state_at f x told) n
+    holds_at None wrote is = has_same x.ghost.state x.ghost.state m n refl (λ i l. kept f h x m ready n written event standing i (variables i l) is) has
     holds_at (Some e) wrote is =
         let body = body_at P h.laid G (promises f h) x m ready ev is.0 in
         subst (λ (c : List Change). HasVars b (state_at f x (Some c)) n) (sym is.2) (now is.0 is.1 (wrote is.1 is.0) body.0 body.1)

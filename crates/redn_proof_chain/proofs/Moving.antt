@@ -6,6 +6,7 @@ use Rattle.redn_words.specs.Landings.{Change}
 use Rattle.redn_graph.specs.Run.{step_cost}
 use Rattle.redn_segment.specs.declared.types.Draft.{Draft}
 use Rattle.redn_block.specs.Blocks.{block_segments, parts_of, ring_start}
+use Rattle.redn_proof_window.specs.Stages.{all_written}
 use Rattle.redn_proof_window.specs.Windows.{Opening, bodies_of}
 use Rattle.redn_proof_window.specs.Scripts.{IsScript}
 use Rattle.redn_proof_landing.specs.Homes.{seen_in, change_of}
@@ -74,11 +75,11 @@ module _ (f : Formed) (h : IsFormed f) where
     steps = (h.tells_well x.ring x.segment its_leaves.tables x.ghost its_leaves.events y.ghost x.ring_in x.segment_in on.goes.follows.tells).steps
 
     -- where the graph is when the window is over
-    pub stood_over : (told : Option (List Change)) → IsTold w (λ k. true) event told → Stood f.course x.ghost y.ghost its_leaves.events (state_at f x told) (ahead_at f x told)
+    pub stood_over : (told : Option (List Change)) → IsTold w all_written event told → Stood f.course x.ghost y.ghost its_leaves.events (state_at f x told) (ahead_at f x told)
     stood_over None is =
         let count = bodies_count c h.laid G (promises f h) x m ready in
         elim (cases_lt w.event (bodies_of w)) [
-          | inl inside ↦ absurd (true≢false (is inside))
+          | inl inside ↦ absurd (true≢false (is inside 0))
           | inr past ↦ As_before (its_leaves.silent (omega (arith, past, count))) refl refl
         ]
     stood_over (Some e) is =
@@ -90,7 +91,7 @@ module _ (f : Formed) (h : IsFormed f) where
     Kept told t = Going f.course t (state_at f x told) [] t (state_at f y None) (whole (window_at c G y n) + owed_at f y None) (owed_at f x told)
 
     -- behind the last segment of a part
-    part_over : (told : Option (List Change)) (t : Contents) → IsTold w (λ k. true) event told → left_in (counts_at f x.ring) x.segment ≡ 0 → begins_in (counts_at f y.ring) y.segment ≡ true → Kept told t
+    part_over : (told : Option (List Change)) (t : Contents) → IsTold w all_written event told → left_in (counts_at f x.ring) x.segment ≡ 0 → begins_in (counts_at f y.ring) y.segment ≡ true → Kept told t
     part_over told t is none begins =
         let starts = starts_here f h y n on.behind.ready begins in
         let pays = paid_here y n on.behind.ready begins in
@@ -102,7 +103,7 @@ module _ (f : Formed) (h : IsFormed f) where
         record { steps = goes.steps; go = goes.go; telling = goes.telling; tables = goes.tables; state = goes.state; enough = (let le = goes.enough in omega (arith, le, mine)) }
 
     -- within a part
-    part_goes : (told : Option (List Change)) (t : Contents) (k : ℕ) → IsTold w (λ i. true) event told → left_in (counts_at f x.ring) x.segment ≡ suc k → y.ring ≡ x.ring → y.segment ≡ suc x.segment → Kept told t
+    part_goes : (told : Option (List Change)) (t : Contents) (k : ℕ) → IsTold w all_written event told → left_in (counts_at f x.ring) x.segment ≡ suc k → y.ring ≡ x.ring → y.segment ≡ suc x.segment → Kept told t
     part_goes told t k is some ring_is segment_is =
         let closes : closes_in (counts_at f x.ring) x.segment ≡ false = ne_eqb (left_in (counts_at f x.ring) x.segment) 0 (λ e. absurd (omega (arith, e, some))) in
         let within : stages.Tells f.course false x.ghost its_leaves.events y.ghost = subst (λ (b : Bool). stages.Tells f.course b x.ghost its_leaves.events y.ghost) closes steps in
@@ -114,12 +115,12 @@ module _ (f : Formed) (h : IsFormed f) where
         let goes = goes_within f.course t x.ghost y.ghost its_leaves.events (state_at f x told) (ahead_at f x told) (whole (window_at c G y n)) (later_cost y.ring (c.ring y.ring) (counts_at f y.ring) y.segment) within (stood_over told is) in
         record { steps = goes.steps; go = goes.go; telling = goes.telling; tables = goes.tables; state = goes.state; enough = (let le = goes.enough in omega (arith, le, mine, cost, rest)) }
 
-    by_left : (told : Option (List Change)) (t : Contents) (k : ℕ) → left_in (counts_at f x.ring) x.segment ≡ k → IsTold w (λ i. true) event told → y.ring ≡ x.ring → y.segment ≡ suc x.segment → Kept told t
+    by_left : (told : Option (List Change)) (t : Contents) (k : ℕ) → left_in (counts_at f x.ring) x.segment ≡ k → IsTold w all_written event told → y.ring ≡ x.ring → y.segment ≡ suc x.segment → Kept told t
     by_left told t zero e is ring_is segment_is =
         part_over told t is e (ap (λ (r : ℕ). begins_in (counts_at f r) y.segment) ring_is ∙ ap (begins_in (counts_at f x.ring)) segment_is ∙ (behind (counts_at f x.ring) x.segment).over e)
     by_left told t (suc k) e is ring_is segment_is = part_goes told t k is e ring_is segment_is
 
-    pub keeps_up : (told : Option (List Change)) (t : Contents) → IsTold w (λ k. true) event told → Kept told t
+    pub keeps_up : (told : Option (List Change)) (t : Contents) → IsTold w all_written event told → Kept told t
     keeps_up told t is =
         elim on.goes.way [
           | inl here ↦ by_left told t (left_in (counts_at f x.ring) x.segment) refl is here.0 here.1

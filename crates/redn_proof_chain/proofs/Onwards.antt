@@ -13,8 +13,8 @@ use Rattle.redn_recycle.specs.Laps.{gates_of, enable_of, opening_at}
 use Rattle.redn_proof_ring.specs.Plans.{Plan, is_ring, IsBody}
 use Rattle.redn_proof_ring.specs.Turns.{Meaning, Ready, HasBytes, GoesTo, script_of, segment_of}
 use Rattle.redn_proof_ring.proofs.LapNext.{seen_bytes}
-use Rattle.redn_proof_ring.proofs.LapWindows.{gates_count, ring_small}
-use Rattle.redn_proof_ring.proofs.LapScript.{goes_on}
+use Rattle.redn_proof_ring.proofs.LapWindows.{ring_small}
+use Rattle.redn_proof_ring.proofs.LapScript.{two_of, goes_on}
 use Rattle.redn_proof_chain.specs.Formed.{Formed, IsFormed, Point, plan, its_meaning}
 use Rattle.redn_proof_ring.proofs.LapEvent.{Left}
 use Rattle.redn_proof_ring.proofs.LapBehind.{left}
@@ -103,7 +103,7 @@ module _ (f : Formed) (h : IsFormed f) where
 
     elsewhere : suc j ≡ (c.ring r).segments → old.0.segment ≡ 0 → bytes_at (s (slot_space r (enable_of r (c.ring r) j))) 40 16 ≡ s (space.Descriptor old.0.ring) → (y : Point f) × GoesOn f x y m event n
     elsewhere end start chosen =
-        let gates : gates_of r (c.ring r) j ≡ 2 = sym (gates_count c h.laid G (promises f h) x m ready) ∙ over.gated.two in
+        let gates : gates_of r (c.ring r) j ≡ 2 = two_of c h.laid G (promises f h) x m ready over.goes_on in
         let goal = (promises f h).target r j x.ghost s x.ring_in end gates ready.fine in
         let same : goal.0 ≡ old.0.ring = same_ring goal.0 old.0.ring (opening_at goal.0 (c.ring goal.0) (x.laps goal.0) (segment_of c G x goal.0)) (opening_at old.0.ring (c.ring old.0.ring) (x.laps old.0.ring) (segment_of c G x old.0.ring)) (small goal.0 goal.1) (small old.0.ring old.0.ring_in) (sym (ready.descriptors goal.0 goal.1) ∙ sym goal.2 ∙ chosen ∙ ready.descriptors old.0.ring old.0.ring_in) in
         let came = goal.3 t bytes its.leaves in

@@ -4,6 +4,7 @@ use Rattle.std.specs.Prelude.{slice_get, Some, None, Option}
 use Rattle.std.proofs.lemmas.Bool.{false≢true}
 use Rattle.redn_kernel.specs.declared.types.Cell.{Cell}
 use Rattle.redn_kernel.specs.declared.types.Cell.TheVariants.{Var, Num}
+use Rattle.redn_kernel.specs.Costs.{reply_cost}
 use Rattle.redn_graph.specs.declared.types.Instr.{Instr}
 use Rattle.redn_graph.specs.declared.types.Instr.TheVariants.{Set, Move, Add}
 use Rattle.redn_graph.specs.declared.types.End.{End}
@@ -45,12 +46,12 @@ copies_long : (i : ℕ) (words : List Cell) → length (copies_from i words) ≡
 copies_long i [] = refl
 copies_long i (w ∷ ws) = ap suc (copies_long (i + 1) ws)
 
-reply_cost : (n : ℕ) (ds : List Draft) → sends ds ≡ false → length ds ≡ n → n ≤ 8 → segment_actions ds + (4 + 0) ≤ 48
-reply_cost n ds quiet long few = let s : segment_actions ds ≡ 4 * length ds + 12 = ap (λ (b : Bool). 4 * length ds + cond b 0 12) quiet in omega (arith, s, long, few)
+reply_actions : (n : ℕ) (ds : List Draft) → sends ds ≡ false → length ds ≡ n → n ≤ 8 → segment_actions ds + (4 + 0) ≤ reply_cost 8
+reply_actions n ds quiet long few = let s : segment_actions ds ≡ 4 * length ds + 12 = ap (λ (b : Bool). 4 * length ds + cond b 0 12) quiet in omega (arith, s, long, few)
 
 end_actions : (most first : ℕ) (at : SlotRef) (e : End) → EndFits most first e → actions (part_segments at (end_part first e)) ≤ end_cost false e
 unfolding end_cost
-end_actions most first at (Reply words) f = reply_cost (length words) (copies_from 0 words) (copies_quiet 0 words) (copies_long 0 words) f.1
+end_actions most first at (Reply words) f = reply_actions (length words) (copies_from 0 words) (copies_quiet 0 words) (copies_long 0 words) f.1
 end_actions most first at _ f = omega arith
 
 end_sends : (first : ℕ) (at : SlotRef) (e : End) → MaySend (part_segments at (end_part first e))

@@ -1,5 +1,5 @@
 -- The rings of a chain among others are its graph's compiled form.
-use Rattle.std.proofs.Common.{◌≡◌, ℕ, ◌+◌, ◌-◌, ◌*◌, inl, inr, Bool, true, false, ◌==◌, List, [], refl, sym, ap, ◌∙◌, subst, arith}
+use Rattle.std.proofs.Common.{◌≡◌, ◌≢◌, ℕ, ◌+◌, ◌-◌, ◌*◌, inl, inr, Bool, true, false, ◌==◌, List, [], refl, sym, ap, ◌∙◌, subst, arith}
 use Rattle.std.specs.Prelude.{Some, None, Option, if◌then◌else◌}
 use Rattle.std.proofs.lemmas.Bool.{cases_lt}
 use Rattle.redn_words.specs.Landings.{Change}
@@ -8,10 +8,11 @@ use Rattle.redn_kernel.specs.declared.types.Cell.TheVariants.{Var}
 use Rattle.redn_segment.specs.declared.types.Space.TheVariants as space
 use Rattle.redn_segment.specs.Homes.{base_of}
 use Rattle.redn_graph.specs.Run.{GraphState, graph_start, step_cost}
-use Rattle.redn_proof_window.specs.Windows.{bodies_of}
+use Rattle.redn_proof_window.specs.Windows.{By_gates, Last, Followed, bodies_of}
+use Rattle.redn_proof_window.specs.Stages.{all_written}
 use Rattle.redn_proof_window.specs.Moves.{AtRest}
 use Rattle.redn_proof_window.specs.Scripts.{IsScript, IsOver, RestsAt}
-use Rattle.redn_recycle.specs.Laps.{IsRing}
+use Rattle.redn_recycle.specs.Laps.{IsRing, is_send_last}
 use Rattle.redn_proof_ring.specs.Plans.{Plan, is_ring, IsPrivate}
 use Rattle.redn_proof_ring.specs.Turns.{Meaning, Ready, window_at, script_of, segment_of, head_at, counted_at}
 use Rattle.redn_proof_ring.proofs.LapWindows.{bodies_count, gates_count}
@@ -100,21 +101,21 @@ module _ (g : Together) (c : ℕ) (a : IsAmong g c) where
 
   -- a window that is over, whatever memory has of the variables
   abbrev plain_over : (x : Point f) (m : List ℕ) (event : List Change) (n : List ℕ) → IsOver (script_at b) x m event n → IsOver (script_of P G) x m event n
-  plain_over x m event n over = record { ready = over.ready.0; gated = over.gated; wrote = over.wrote; last = over.last; sound = over.sound; standing = over.standing }
+  plain_over x m event n over = record { ready = over.ready.0; goes_on = over.goes_on; wrote = over.wrote; last = over.last; sound = over.sound; standing = over.standing }
 
   -- what of its event is told then
-  told_over : (x : Point f) (m : List ℕ) (event : List Change) → (told : Option (List Change)) × IsTold (window_at P G x m) (λ k. true) event told
+  told_over : (x : Point f) (m : List ℕ) (event : List Change) → (told : Option (List Change)) × IsTold (window_at P G x m) all_written event told
   told_over x m event =
       elim (cases_lt (window_at P G x m).event (bodies_of (window_at P G x m))) [
-        | inl inside ↦ (Some event, (inside, refl, refl))
-        | inr past ↦ (None, λ inside. absurd (omega (arith, inside, past)))
+        | inl inside ↦ (Some event, (inside, (λ p. refl), refl))
+        | inr past ↦ (None, λ inside p. absurd (omega (arith, inside, past)))
       ]
 
   -- memory has the variables where the chain goes on
   vars_behind : (x : Point f) (m : List ℕ) (event : List Change) (n : List ℕ) → IsOver (script_at b) x m event n → (y : Point f) → GoesOn f x y m event n → HasVars b y.ghost.state n
   vars_behind x m event n over y on =
       let told = told_over x m event in
-      let has : HasVars b (state_at f x told.0) n = holds_at b h a.variables x m over.ready.0 over.ready.1 n (λ k. true) event over.standing told.0 (λ landed inside. over.wrote inside) told.1 in
+      let has : HasVars b (state_at f x told.0) n = holds_at b h a.variables x m over.ready.0 over.ready.1 n all_written event over.standing told.0 (λ landed inside. over.wrote inside) told.1 in
       has_same b h a.variables (state_at f x told.0) y.ghost.state n n (stood_vars f.course (closes_in (counts_at f x.ring) x.segment) x.ghost y.ghost on.goes.leaves.events (state_at f x told.0) (ahead_at f x told.0) (steps f h x m over.ready.0 event n y on) (stood_over f h x m over.ready.0 event n y on told.0 told.1)) (λ i l. refl) has
 
   abbrev behind_at : (x : Point f) (m : List ℕ) (event : List Change) (n : List ℕ) → IsOver (script_at b) x m event n → (y : Point f) × GoesOn f x y m event n
@@ -129,7 +130,7 @@ module _ (g : Together) (c : ℕ) (a : IsAmong g c) where
         row_is = (script f h).row_is;
         from = (script f h).from;
         counter = (script f h).counter;
-        target = λ x m ready two. (script f h).target x m ready.0 two;
+        target = λ x m ready by. (script f h).target x m ready.0 by;
         managed = (script f h).managed;
         behind = λ x m event n over.
             let y = behind_at x m event n over in
@@ -137,13 +138,20 @@ module _ (g : Together) (c : ℕ) (a : IsAmong g c) where
             (y.0, record { ready = (on.ready, vars_behind x m event n over y.0 y.1); queue = on.queue; limit = on.limit; regions = on.regions; own_at = on.own_at; own_counted = on.own_counted; others_at = on.others_at; others_counted = on.others_counted });
       }
 
-  moves_on : (x : Point f) (m : List ℕ) (event : List Change) (n : List ℕ) (told : Option (List Change)) (t : Contents) → (over : IsOver (script_at b) x m event n) → IsTold (window_at P G x m) (λ k. true) event told → KeepsUp W c x (its_script.behind x m event n over).0 n told t
+  moves_on : (x : Point f) (m : List ℕ) (event : List Change) (n : List ℕ) (told : Option (List Change)) (t : Contents) → (over : IsOver (script_at b) x m event n) → IsTold (window_at P G x m) all_written event told
+      → KeepsUp W c x (its_script.behind x m event n over).0 n told t
   moves_on x m event n told t over is = let y = behind_at x m event n over in keeps_up f h x m over.ready.0 event n y.0 y.1 told t is
+
+  its_ending : (b : Bool) → (if b then Last else By_gates) ≢ Followed
+  its_ending true = λ e. absurd (cc)
+  its_ending false = λ e. absurd (cc)
 
   promised : Promises W c
   promised =
       record {
         script = its_script;
+        no_first_gate = λ x m. refl;
+        unfollowed = λ x m ready. its_ending (is_send_last x.ring (P.ring x.ring) x.segment);
         most = a.most;
         domain = λ x m. (h.laid.rows x.ring x.ring_in).0 ∙ a.number;
         ours = λ x m p e. a.ours p e;
@@ -160,8 +168,8 @@ module _ (g : Together) (c : ℕ) (a : IsAmong g c) where
         tells = λ x m n t finds allowed. tells_at g c a x m n t finds allowed;
         fails = λ x m n t finds refused. fails_at g c a x m n t finds refused;
         moves_on = moves_on;
-        ends = λ x m ready none. ends_here f h x m ready.0 none;
-        holds = λ x m n marks event told ready wrote is standing. holds_at b h a.variables x m ready.0 ready.1 n marks event standing told wrote is;
+        ends = λ x m ready last. ends_here f h x m ready.0 last;
+        holds = λ x m n written event told ready wrote is standing. holds_at b h a.variables x m ready.0 ready.1 n written event standing told wrote is;
         holds_failed = λ x n has. has_same b h a.variables x.ghost.state (failed_at f x) n n refl (λ i l. refl) has;
         holds_begin = a.first_vars;
         holds_same = same_vars;

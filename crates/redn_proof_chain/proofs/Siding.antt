@@ -6,7 +6,7 @@ use Rattle.redn_words.specs.Words.{bytes_at}
 use Rattle.redn_kernel.specs.declared.types.Program.{Program}
 use Rattle.redn_kernel.specs.Source.{bytes_of}
 use Rattle.redn_graph.specs.declared.types.Graph.{Graph}
-use Rattle.redn_graph.specs.Run.{GraphState, graph_start}
+use Rattle.redn_graph.specs.Run.{Mail, GraphState, graph_start}
 use Rattle.redn_segment.proofs.Kept.{word_is}
 use Rattle.redn_image.specs.Rules.{Image}
 use Rattle.redn_image.specs.Agreement.{HoldsVariables}
@@ -22,10 +22,10 @@ use Rattle.redn_proof_chain.proofs.Shelved.{shelves_hold}
 use Rattle.redn_proof_chain.proofs.Promising.{rings_promise}
 
 -- a graph runs itself, by other names for its chain
-runs_as : (c k : ℕ) (w v : List ℕ) (g h : Graph) (us vs : List ℕ) → k ≡ c → w ≡ v → g ≡ h → us ≡ vs → RunsGraph GraphState (graph_machine k w g) (graph_start g us) (λ x. x) c v h vs
-runs_as c k w v g h us vs number words graph vars =
+runs_as : (c k : ℕ) (w v : Mail) (g h : Graph) (us vs : List ℕ) → k ≡ c → w ≡ v → g ≡ h → us ≡ vs → RunsGraph GraphState (graph_machine k w g) (graph_start g us) (λ x. x) c v h vs
+runs_as c k w v g h us vs number mail graph vars =
     subst (λ (n : ℕ). RunsGraph GraphState (graph_machine n w g) (graph_start g us) (λ x. x) c v h vs) (sym number)
-    (subst (λ (l : List ℕ). RunsGraph GraphState (graph_machine c l g) (graph_start g us) (λ x. x) c v h vs) (sym words)
+    (subst (λ (l : Mail). RunsGraph GraphState (graph_machine c l g) (graph_start g us) (λ x. x) c v h vs) (sym mail)
     (subst (λ (r : Graph). RunsGraph GraphState (graph_machine c v r) (graph_start r us) (λ x. x) c v h vs) (sym graph) (subst (λ (l : List ℕ). RunsGraph GraphState (graph_machine c v h) (graph_start h l) (λ x. x) c v h vs) (sym vars) (itself_runs c v h vs))))
 
 -- a table in its region
@@ -61,7 +61,7 @@ module _ (p : Program) (i : Image) (gs : List Graph) (messages : Messages) (g : 
         begin = h.begin;
         most = h.most;
         promises = all_promise;
-        runs_graph = λ c chain graph there graph_there. let its = h.chains c chain graph there graph_there in runs_as c _ _ _ _ graph _ chain.vars its.number its.words_are its.graph_is its.vars_are;
+        runs_graph = λ c chain graph there graph_there. let its = h.chains c chain graph there graph_there in runs_as c _ _ _ _ graph _ chain.vars its.number its.mail_is its.graph_is its.vars_are;
         has_tables = h.tables;
         tables = λ t m n has k d small. on_shelf g.shelves t m n _ has (h.shelves n k d small);
         variables = λ c y m l has k d small. held (g.chain c) y m _ has (h.cells c l k d small);

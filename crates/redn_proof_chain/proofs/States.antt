@@ -19,7 +19,7 @@ use Rattle.redn_graph.specs.declared.types.Instr.TheVariants.{Set, Move, Add, Lo
 use Rattle.redn_graph.specs.declared.types.End.{End}
 use Rattle.redn_graph.specs.declared.types.End.TheVariants.{Jump, Test48, Test64, Probe, Reply}
 use Rattle.redn_graph.specs.declared.types.Block.{Block}
-use Rattle.redn_graph.specs.Run.{GraphState, GraphTurn, Effect, Way, effect, within, instr_does, end_does, graph_step, instr_or_end, block_turn, stays, graph_turn}
+use Rattle.redn_graph.specs.Run.{Mail, in_hand, GraphState, GraphTurn, Effect, Way, effect, within, instr_does, end_does, graph_step, instr_or_end, block_turn, stays, graph_turn}
 use Rattle.redn_image.specs.Faithful.{IsClean}
 use Rattle.redn_block.specs.Plays.{IsTrueOf}
 use Rattle.redn_proof_block.specs.Left.{Course, Tells}
@@ -68,19 +68,19 @@ module _ (c : ℕ) (words : List ℕ) (tables : List (List ℕ)) (s : Cells) whe
   end_there true (Probe to table offset key hit miss) = within_spot table _ _ (load_spot to table _ _)
   end_there taking (Reply cells) = tt
 
-  part_there : (taking : Bool) (i : Option Instr) (end : End) (x : GraphState) → x.cells ≡ s → x.taking ≡ taking → IsAtSpot (part_spot words s taking i end) (instr_or_end c words tables x i end).event
-  part_there taking (Some i) end x e f = subst (λ (z : Cells). IsAtSpot (instr_spot words s i) (instr_does c words tables z i).event) (sym e) (instr_there i)
-  part_there taking None end x e f = subst (λ (z : Cells). IsAtSpot (end_spot words s taking end) (end_does c words tables z x.taking end).event) (sym e) (subst (λ (b : Bool). IsAtSpot (end_spot words s taking end) (end_does c words tables s b end).event) (sym f) (end_there taking end))
+part_there : (c : ℕ) (mail : Mail) (tables : List (List ℕ)) (x : GraphState) (i : Option Instr) (end : End) → IsAtSpot (part_spot (in_hand mail x) x.cells x.taking i end) (instr_or_end c mail tables x i end).event
+part_there c mail tables x (Some i) end = instr_there c (in_hand mail x) tables x.cells i
+part_there c mail tables x None end = end_there c (in_hand mail x) tables x.cells x.taking end
 
-pub spot_there : (c : Course) (tables : List (List ℕ)) (x : GraphState) → IsAtSpot (next_spot c x) (graph_step c.number c.words tables x c.graph).event
+pub spot_there : (c : Course) (tables : List (List ℕ)) (x : GraphState) → IsAtSpot (next_spot c x) (graph_step c.number c.mail tables x c.graph).event
 unfolding graph_step
 spot_there c tables x = by_end x.ended
   where
-    by_block : (b : Option Block) → IsAtSpot (block_spot c.words x.cells x.taking x.place b) (block_turn c.number c.words tables x b).event
+    by_block : (b : Option Block) → IsAtSpot (block_spot (in_hand c.mail x) x.cells x.taking x.place b) (block_turn c.number c.mail tables x b).event
     by_block None = tt
-    by_block (Some b) = part_there c.number c.words tables x.cells x.taking (slice_get b.instrs x.place) b.end x refl refl
+    by_block (Some b) = part_there c.number c.mail tables x (slice_get b.instrs x.place) b.end
 
-    by_end : (b : Bool) → IsAtSpot (next_spot c x) (cond b (stays tables x) (block_turn c.number c.words tables x (slice_get c.graph.blocks x.block))).event
+    by_end : (b : Bool) → IsAtSpot (next_spot c x) (cond b (stays tables x) (block_turn c.number c.mail tables x (slice_get c.graph.blocks x.block))).event
     by_end true = tt
     by_end false = by_block (slice_get c.graph.blocks x.block)
 
@@ -114,7 +114,7 @@ module _ (c : Course) (x : GraphState) (e : Obs) (z : GraphState) (tells : Tells
   by_spot p is_true same =
       let turn = tells (tables_with p w) is_true in
       let at : IsAtSpot (next_spot c x) e = subst (IsAtSpot (next_spot c x)) (ap (λ (t : GraphTurn). t.event) turn) (spot_there c (tables_with p w) x) in
-      subst (λ (q : Spot). (graph_step c.number c.words (tables_with q w) x c.graph).state ≡ z) (same at) (ap (λ (t : GraphTurn). t.state) turn)
+      subst (λ (q : Spot). (graph_step c.number c.mail (tables_with q w) x c.graph).state ≡ z) (same at) (ap (λ (t : GraphTurn). t.state) turn)
 
 pub stepped_is : (c : Course) (x : GraphState) (e : Obs) (z : GraphState) → Tells c x e z → (w : ℕ) → Reads e w → stepped c x w ≡ z
 stepped_is c x (shows.Nothing) z tells w r = by_spot c x shows.Nothing z tells w (next_spot c x) tt (λ at. refl)
@@ -169,19 +169,19 @@ module _ (c : ℕ) (words : List ℕ) (tables : List (List ℕ)) (s : Cells) whe
   end_clean true (Probe to table offset key hit miss) = within_clean table _ _ (load_clean to table _ _)
   end_clean taking (Reply cells) = tt
 
-  part_clean : (i : Option Instr) (end : End) (x : GraphState) → x.cells ≡ s → IsClean (instr_or_end c words tables x i end).event
-  part_clean (Some i) end x e = subst (λ (z : Cells). IsClean (instr_does c words tables z i).event) (sym e) (instr_clean i)
-  part_clean None end x e = subst (λ (z : Cells). IsClean (end_does c words tables z x.taking end).event) (sym e) (end_clean x.taking end)
+part_clean : (c : ℕ) (mail : Mail) (tables : List (List ℕ)) (x : GraphState) (i : Option Instr) (end : End) → IsClean (instr_or_end c mail tables x i end).event
+part_clean c mail tables x (Some i) end = instr_clean c (in_hand mail x) tables x.cells i
+part_clean c mail tables x None end = end_clean c (in_hand mail x) tables x.cells x.taking end
 
-pub graph_clean : (c : Course) (tables : List (List ℕ)) (x : GraphState) → IsClean (graph_step c.number c.words tables x c.graph).event
+pub graph_clean : (c : Course) (tables : List (List ℕ)) (x : GraphState) → IsClean (graph_step c.number c.mail tables x c.graph).event
 unfolding graph_step
 graph_clean c tables x = by_end x.ended
   where
-    by_block : (b : Option Block) → IsClean (block_turn c.number c.words tables x b).event
+    by_block : (b : Option Block) → IsClean (block_turn c.number c.mail tables x b).event
     by_block None = tt
-    by_block (Some b) = part_clean c.number c.words tables x.cells (slice_get b.instrs x.place) b.end x refl
+    by_block (Some b) = part_clean c.number c.mail tables x (slice_get b.instrs x.place) b.end
 
-    by_end : (b : Bool) → IsClean (cond b (stays tables x) (block_turn c.number c.words tables x (slice_get c.graph.blocks x.block))).event
+    by_end : (b : Bool) → IsClean (cond b (stays tables x) (block_turn c.number c.mail tables x (slice_get c.graph.blocks x.block))).event
     by_end true = tt
     by_end false = by_block (slice_get c.graph.blocks x.block)
 
@@ -196,7 +196,10 @@ IsBehind (shows.Reply c n ws) x z = (z.ended ≡ true) × (z.cells.vars ≡ x.ce
 IsBehind (shows.Fault c t o) x z = z ≡ record x { ended = true }
 IsBehind _ x z = Unit {0}
 
-module _ (c : ℕ) (words : List ℕ) (tables : List (List ℕ)) (x : GraphState) where
+module _ (c : ℕ) (mail : Mail) (tables : List (List ℕ)) (x : GraphState) where
+  abbrev words : List ℕ
+  words = in_hand mail x
+
   abbrev Leaves : Effect → Type 0
   Leaves e = IsBehind e.event x (graph_turn x e).state
 
@@ -228,7 +231,7 @@ module _ (c : ℕ) (words : List ℕ) (tables : List (List ℕ)) (x : GraphState
   probe_behind to table offset key hit miss false = within_behind table _ _ (looks_behind _ table (held words x.cells offset) (word_in tables table (held words x.cells offset)) miss)
   probe_behind to table offset key hit miss true = within_behind table _ _ (to_behind hit to table _ _)
 
-  part_behind : (i : Option Instr) (end : End) → Leaves (instr_or_end c words tables x i end)
+  part_behind : (i : Option Instr) (end : End) → Leaves (instr_or_end c mail tables x i end)
   unfolding instr_does end_does
   part_behind (Some (Set to v)) end = sets_behind to v
   part_behind (Some (Move to from)) end = sets_behind to _
@@ -241,15 +244,16 @@ module _ (c : ℕ) (words : List ℕ) (tables : List (List ℕ)) (x : GraphState
   part_behind None (Probe to table offset key hit miss) = probe_behind to table offset key hit miss x.taking
   part_behind None (Reply cells) = (refl, refl)
 
-pub graph_behind : (c : Course) (tables : List (List ℕ)) (x : GraphState) → IsBehind (graph_step c.number c.words tables x c.graph).event x (graph_step c.number c.words tables x c.graph).state
+pub graph_behind : (c : Course) (tables : List (List ℕ)) (x : GraphState) → IsBehind (graph_step c.number c.mail tables x c.graph).event x (graph_step c.number c.mail tables x c.graph).state
 unfolding graph_step
 graph_behind c tables x = by_end x.ended
   where
-    by_block : (b : Option Block) → IsBehind (block_turn c.number c.words tables x b).event x (block_turn c.number c.words tables x b).state
+    by_block : (b : Option Block) → IsBehind (block_turn c.number c.mail tables x b).event x (block_turn c.number c.mail tables x b).state
     by_block None = refl
-    by_block (Some b) = part_behind c.number c.words tables x (slice_get b.instrs x.place) b.end
+    by_block (Some b) = part_behind c.number c.mail tables x (slice_get b.instrs x.place) b.end
 
-    by_end : (b : Bool) → IsBehind (cond b (stays tables x) (block_turn c.number c.words tables x (slice_get c.graph.blocks x.block))).event x (cond b (stays tables x) (block_turn c.number c.words tables x (slice_get c.graph.blocks x.block))).state
+    by_end : (b : Bool) →
+        IsBehind (cond b (stays tables x) (block_turn c.number c.mail tables x (slice_get c.graph.blocks x.block))).event x (cond b (stays tables x) (block_turn c.number c.mail tables x (slice_get c.graph.blocks x.block))).state
     by_end true = refl
     by_end false = by_block (slice_get c.graph.blocks x.block)
 

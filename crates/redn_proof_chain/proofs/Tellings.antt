@@ -199,7 +199,7 @@ module _ (g : Together) (c : ℕ) (a : IsAmong g c) where
         shown : IsTrueOf t o → HasTables g.shelves (stored t o) (changed n writes) → Tells W c x m n t
         shown is_true has =
             let turn = step t is_true in
-            let event : (graph_step f.course.number f.course.words t x.ghost.state f.course.graph).event ≡ o = ap (λ (q : GraphTurn). q.event) turn in
+            let event : (graph_step f.course.number f.course.mail t x.ghost.state f.course.graph).event ≡ o = ap (λ (q : GraphTurn). q.event) turn in
             let runs = still_runs f.course t x.ghost.state (λ k. some (sym event ∙ k)) in
             let its_shown : (landing_on w n ev).shown ≡ o = told_one P.home (landing_on w n ev).shown o (its.lands.shown_is ∙ is) in
             let clean : IsClean o = subst IsClean event (graph_clean f.course t x.ghost.state) in
@@ -302,7 +302,7 @@ module _ (g : Together) (c : ℕ) (a : IsAmong g c) where
               let seen : nat_le (p.offset + 8) (length (u (space.Table p.table))) ≡ false = All-head (IsTrueBy (λ (k : ℕ). u (space.Table k))) (shows.Fault P.domain p.table p.offset) [] (subst (λ (l : List Obs). All (IsTrueBy (λ (k : ℕ). u (space.Table k))) l) p.events_are well.seen) in
               let is_true : has_word t p.table p.offset ≡ false = ap (λ (l : List ℕ). nat_le (p.offset + 8) (length l)) (sym (far_table d e p.moves p.table p.its)) ∙ seen in
               let turn = step t is_true in
-              let event : (graph_step f.course.number f.course.words t x.ghost.state f.course.graph).event ≡ shows.Fault P.domain p.table p.offset = ap (λ (q : GraphTurn). q.event) turn in
+              let event : (graph_step f.course.number f.course.mail t x.ghost.state f.course.graph).event ≡ shows.Fault P.domain p.table p.offset = ap (λ (q : GraphTurn). q.event) turn in
               let runs = still_runs f.course t x.ghost.state (λ k. fault_some (sym event ∙ k)) in
               let its_shown : (landing_on w n ev).shown ≡ shows.Fault P.domain p.table p.offset = told_one P.home (landing_on w n ev).shown (shows.Fault P.domain p.table p.offset) (shown ∙ p.events_are) in
               let fell : fallen x.ghost.state ≡ well.falls.0 = (steps_show f.course x.ghost.state (shows.Fault P.domain p.table p.offset) well.falls.0 step).fallen P.domain p.table p.offset refl in

@@ -1,12 +1,15 @@
 -- What windows cost, computed: the segments of each instruction and end, in a ring that ends by a jump and in one that ends by a reply.
-use Rattle.std.proofs.Common.{ℕ, ◌≡◌, List, [], ◌∷◌, refl, length, map}
+use Rattle.std.proofs.Common.{ℕ, ◌≡◌, ◌+◌, false, List, [], ◌∷◌, refl, length, map}
+use Rattle.std.specs.Prelude.{sum}
 use Rattle.std.specs.List.{range_with_len}
 use Rattle.redn_kernel.specs.declared.types.Cell.TheVariants.{Var, Num}
+use Rattle.redn_kernel.specs.Costs.{move_cost, jump_cost, reply_cost}
 use Rattle.redn_graph.specs.declared.types.Instr.{Instr}
 use Rattle.redn_graph.specs.declared.types.End.{End}
 use Rattle.redn_graph.specs.declared.types.Instr.TheVariants as instr
 use Rattle.redn_graph.specs.declared.types.End.TheVariants as end
 use Rattle.redn_graph.specs.declared.types.Block.{Block}
+use Rattle.redn_graph.specs.Run.{instr_cost, end_cost}
 use Rattle.redn_block.specs.Blocks.{block_segments}
 use Rattle.redn_recycle.specs.Lapped.{ring_of}
 use Rattle.redn_proof_block.specs.Shares.{counts_of}
@@ -39,6 +42,18 @@ test_all = refl
 probes : costs (block [] (end.Probe (Var 0) 0 (Var 1) (Var 2) 0 0)) ≡ 36 ∷ 20 ∷ 24 ∷ 20 ∷ 20 ∷ 12 ∷ []
 probes = refl
 
+-- in all they are what the table of costs says, of each instruction with a jump behind it, and of each other end alone
+each_instruction : map (λ (i : Instr). sum (costs (block (i ∷ []) (end.Jump 0)))) all_instrs ≡ map (λ (i : Instr). instr_cost i + jump_cost) all_instrs
+unfolding instr_cost
+each_instruction = refl
+
+abbrev other_ends : List End
+other_ends = end.Test48 (Var 0) (Var 1) 0 0 ∷ end.Test64 (Var 0) (Var 1) 0 0 ∷ end.Probe (Var 0) 0 (Var 1) (Var 2) 0 0 ∷ []
+
+each_end : map (λ (e : End). sum (costs (block [] e))) other_ends ≡ map (end_cost false) other_ends
+unfolding end_cost
+each_end = refl
+
 -- a reply of eight words costs 48 where something stands before it, and 44 alone: its first segment has one lap request
 eight_words : List Instr → Block
 eight_words instrs = block instrs (end.Reply (Var 0 ∷ Var 0 ∷ Var 0 ∷ Var 0 ∷ Var 0 ∷ Var 0 ∷ Var 0 ∷ Var 0 ∷ []))
@@ -50,3 +65,8 @@ replying = refl
 replying_then : costs (eight_words (instr.Set (Var 0) 7 ∷ [])) ≡ 12 ∷ 44 ∷ 4 ∷ []
 unfolding eight_words
 replying_then = refl
+
+-- the move and the reply together cost four less than the table says, for the one lap request
+a_reply_behind_a_move : sum (costs (eight_words (instr.Set (Var 0) 7 ∷ []))) + 4 ≡ move_cost + reply_cost 8
+unfolding eight_words
+a_reply_behind_a_move = refl

@@ -20,7 +20,7 @@ graph =
     }
 
 abbrev course : Course
-course = record { number = 3; words = []; graph = graph }
+course = record { number = 3; mail = record { words = [] }; graph = graph }
 
 abbrev at : ℕ → ℕ → Bool → ℕ → GraphState
 at block place taking x = record { block = block; place = place; taking = taking; cells = record { vars = x ∷ []; hidden = λ (k : ℕ). 0 }; ended = false }

@@ -10,6 +10,7 @@ use Rattle.redn_kernel.specs.declared.types.ChainInit.{ChainInit}
 use Rattle.redn_kernel.specs.declared.types.Program.{Program}
 use Rattle.redn_kernel.specs.declared.types.Cell.TheVariants.{Var}
 use Rattle.redn_graph.specs.declared.types.Graph.{Graph}
+use Rattle.redn_graph.specs.Run.{Mail}
 use Rattle.redn_segment.specs.declared.types.Space.TheVariants as space
 use Rattle.redn_segment.specs.Homes.{base_of}
 use Rattle.redn_proof_window.specs.Scripts.{IsBytes}
@@ -18,7 +19,7 @@ use Rattle.redn_image.specs.Agreement.{variables_of, places_of}
 use Rattle.redn_image.specs.Faithful.{start_of}
 use Rattle.redn_proof_ring.specs.Plans.{is_ring}
 use Rattle.redn_proof_interleave.specs.Compiled.{Messages}
-use Rattle.redn_proof_interleave.specs.GraphMachines.{words_in}
+use Rattle.redn_proof_interleave.specs.GraphMachines.{mail_in}
 use Rattle.redn_proof_interleave.specs.RingSides.{Graphed, message_at, first_tables}
 use Rattle.redn_proof_chain.specs.Formed.{plan}
 use Rattle.redn_proof_chain.specs.Together.{Begun, Shelves, Together, HasTables, world_of}
@@ -29,9 +30,9 @@ abbrev pub graphed_of : Together → Graphed
 graphed_of g = record { world = world_of g; as_graph = λ c y. y }
 
 -- a chain of a program, its graph and its message
-pub record IsChain (b : Begun) (c : ℕ) (chain : ChainInit) (graph : Graph) (words : List ℕ) : Type 0 where
+pub record IsChain (b : Begun) (c : ℕ) (chain : ChainInit) (graph : Graph) (mail : Mail) : Type 0 where
   pub number : b.formed.course.number ≡ c
-  pub words_are : b.formed.course.words ≡ words
+  pub mail_is : b.formed.course.mail ≡ mail
   pub graph_is : b.formed.course.graph ≡ graph
   pub vars_are : b.vars ≡ chain.vars
 
@@ -50,7 +51,7 @@ module _ (p : Program) (i : Image) (gs : List Graph) (messages : Messages) (g : 
     pub most : g.most ≡ 2 ^ 62
     pub among : (c : ℕ) → c < length g.begin.chains → IsAmong g c
     pub chains : (c : ℕ) (chain : ChainInit) (graph : Graph) → slice_get p.chains c ≡ Some chain → slice_get gs c ≡ Some graph
-        → IsChain (g.chain c) c chain graph (words_in chain (message_at messages c))
+        → IsChain (g.chain c) c chain graph (mail_in chain (message_at messages c))
     pub rows : (q : ℕ) (row : QueueRow) → row_at g.begin.queues q ≡ Some row
         → (row.domain < length g.begin.chains) × ((q ≡ (g.chain row.domain).entry.queue) ⊎ (is_ring (plan (g.chain row.domain).formed) q ≡ true))
     pub heads : (q : ℕ) (u : Queue) → slice_get g.begin.queues q ≡ Some u → u.head ≡ 0

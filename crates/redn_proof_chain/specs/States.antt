@@ -11,7 +11,7 @@ use Rattle.redn_graph.specs.declared.types.Instr.TheVariants.{Set, Move, Add, Lo
 use Rattle.redn_graph.specs.declared.types.End.{End}
 use Rattle.redn_graph.specs.declared.types.End.TheVariants.{Jump, Test48, Test64, Probe, Reply}
 use Rattle.redn_graph.specs.declared.types.Block.{Block}
-use Rattle.redn_graph.specs.Run.{GraphState, graph_step}
+use Rattle.redn_graph.specs.Run.{GraphState, in_hand, graph_step}
 use Rattle.redn_proof_block.specs.Left.{Course}
 
 -- a word of a table
@@ -48,7 +48,7 @@ module _ (words : List ℕ) (s : Cells) where
   block_spot taking place (Some b) = part_spot taking (slice_get b.instrs place) b.end
 
 abbrev pub next_spot : Course → GraphState → Spot
-next_spot c x = block_spot c.words x.cells x.taking x.place (slice_get c.graph.blocks x.block)
+next_spot c x = block_spot (in_hand c.mail x) x.cells x.taking x.place (slice_get c.graph.blocks x.block)
 
 -- tables that have a word there, and nothing else
 abbrev pub tables_with : Spot → ℕ → List (List ℕ)
@@ -56,7 +56,7 @@ tables_with p w = replicate p.table [] ++ (replicate p.offset 0 ++ spelled 8 w) 
 
 -- the state behind the next step, where it looks at this word
 abbrev pub stepped : Course → GraphState → ℕ → GraphState
-stepped c x w = (graph_step c.number c.words (tables_with (next_spot c x) w) x c.graph).state
+stepped c x w = (graph_step c.number c.mail (tables_with (next_spot c x) w) x c.graph).state
 
 -- and where its place is past the end of its table
 abbrev pub fallen : GraphState → GraphState

@@ -81,7 +81,7 @@ module _ (b : Begun) where
         entry = b.entry;
         first = first_point;
         mine = b.mine;
-        machine = graph_machine b.formed.course.number b.formed.course.words b.formed.course.graph;
+        machine = graph_machine b.formed.course.number b.formed.course.mail b.formed.course.graph;
         begin = graph_start b.formed.course.graph b.vars;
         state = state_at b.formed;
         failed = failed_at b.formed;

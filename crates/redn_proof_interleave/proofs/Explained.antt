@@ -13,17 +13,20 @@ use Rattle.redn_words.specs.Landings.{Change}
 use Rattle.redn_words.specs.Steps.{class_of, possible, is_useful, may_start, counter_of, chain_counter, acts_on}
 use Rattle.redn_words.specs.Runs.{AllPossible, reached}
 use Rattle.redn_words.proofs.Actions as action
-use Rattle.redn_proof_window.specs.Stages.{landed_in}
+use Rattle.redn_proof_window.specs.Stages.{written_in}
 use Rattle.redn_words.specs.declared.limits.TheConstants.{RECEIVE_BASE}
-use Rattle.redn_proof_window.specs.Windows.{Opening, slots_of}
+use Rattle.redn_proof_window.specs.Windows.{Ending, By_gates, Last, Followed, Opening, bodies_of, place_of, slots_of}
+use Rattle.redn_proof_window.proofs.Counters.{no_gate_begins}
+use Rattle.redn_proof_window.proofs.Places.{place_below}
 use Rattle.redn_proof_window.proofs.Marks.{landed_before}
 use Rattle.redn_words.proofs.Missing.{missing_le}
-use Rattle.redn_proof_window.specs.Stages.{Gated, Orderly}
-use Rattle.redn_proof_window.specs.Moves.{GoesOn}
+use Rattle.redn_proof_window.specs.Stages.{Orderly}
+use Rattle.redn_proof_window.specs.Moves.{GoesOn, MayBegin}
 use Rattle.redn_proof_window.proofs.Moves.{goes_on}
 use Rattle.redn_proof_window.specs.Gateways.{gate_of}
 use Rattle.redn_proof_window.specs.Scripts.{window_at}
 use Rattle.redn_proof_window.proofs.Chains.{chain_goes_on}
+use Rattle.redn_kernel.specs.Costs.{entry_cost}
 use Rattle.redn_image.specs.Faithful.{CanGoOn}
 use Rattle.redn_image.proofs.Simulation.{follows}
 use Rattle.redn_proof_interleave.specs.Machines.{Many, many_running, many_step, many_tells, many_credit}
@@ -117,7 +120,7 @@ module _ (g : World) where
 
       -- a window goes on, until its chain has ended
       window_on : Inside g c s (z.at c) (b c) → CanGoOn s c
-      window_on h = by_gates script_ok.gates
+      window_on h = by_ending w.ending refl
         where
           w : Opening
           w = window_at (g.form c).script h.moment
@@ -128,23 +131,30 @@ module _ (g : World) where
           of_window : GoesOn s w.queue → CanGoOn s c
           of_window o = by_queue o.action w.queue o.its (inr (k.script.ring_is h.moment.point h.moment.memory)) o.can o.useful
 
-          over : length w.gates ≡ 0 → slots_of w ≤ h.moment.progress.done → (told : Option (List Change)) → h.told ≡ told → IsTold w (landed_in h.moment.progress) h.moment.event told → ⊥
-          over none all None e t =
-              let last = k.ends h.moment.point h.moment.memory h.chain.ready none in
+          event_past : slots_of w ≤ h.moment.progress.done → w.event < bodies_of w → place_of w w.event < h.moment.progress.done
+          event_past all inside = let below = place_below w w.event (bodies_of w + length w.gates) (omega (arith, inside)) in omega (arith, below, all)
+
+          begins : MayBegin w s h.moment.progress.done
+          begins = no_gate_begins w s h.moment.progress.done (k.no_first_gate h.moment.point h.moment.memory)
+
+          over : w.ending ≡ Last → slots_of w ≤ h.moment.progress.done → (told : Option (List Change)) → h.told ≡ told → IsTold w (written_in w h.moment.progress) h.moment.event told → ⊥
+          over is all None e t =
+              let last = k.ends h.moment.point h.moment.memory h.chain.ready is in
               let inside = last.0 in
-              true≢false (sym (landed_before h.moment.progress.done h.moment.progress.marks w.event (omega arith)) ∙ t inside)
-          over none all (Some event) e t =
-              let last = k.ends h.moment.point h.moment.memory h.chain.ready none in
-              let wrote = h.chain.wrote t.1 t.0 in
+              true≢false (sym (landed_before h.moment.progress.done h.moment.progress.marks (place_of w w.event) (event_past all inside)) ∙ t inside 0)
+          over is all (Some event) e t =
+              let last = k.ends h.moment.point h.moment.memory h.chain.ready is in
+              let wrote = h.chain.wrote (t.1 0) t.0 in
               let ended : (g.form c).machine.ended (z.at c) ≡ true = ap (g.form c).machine.ended (h.is ∙ ap ((g.form c).state h.moment.point) (e ∙ ap (λ (w : List Change). Some w) t.2)) ∙ last.1 h.moment.event wrote in
               false≢true (sym not_ended ∙ ended)
 
-          by_gates : (length w.gates ≡ 0) ⊎ Gated w → CanGoOn s c
-          by_gates (inr gated) = of_window (chain_goes_on (g.form c).script k.script s h.moment h.chain gated)
-          by_gates (inl none) =
+          by_ending : (e : Ending) → w.ending ≡ e → CanGoOn s c
+          by_ending By_gates is = of_window (chain_goes_on (g.form c).script k.script s h.moment h.chain is begins)
+          by_ending Followed is = absurd (k.unfollowed h.moment.point h.moment.memory h.chain.ready is)
+          by_ending Last is =
               elim (cases_lt h.moment.progress.done (slots_of w)) [
-                | inl more ↦ of_window (goes_on w script_ok s h.moment.progress h.moment.event h.chain.stage more)
-                | inr all ↦ absurd (over none all h.told refl h.is_told)
+                | inl more ↦ of_window (goes_on w script_ok s h.moment.progress h.moment.event h.chain.stage more begins)
+                | inr all ↦ absurd (over is all h.told refl h.is_told)
               ]
 
       stands_on : Stands g c s (z.at c) (b c) → CanGoOn s c
@@ -164,7 +174,8 @@ module _ (g : World) where
         by_stands (Enters h) =
             subst (λ (y : g.M). (g.form c).Holds y s.memory) (sym h.is) ((all.each c inside).holds_same (g.form c).begin s.memory (expected g c h.came) h.memory ((all.each c inside).holds_begin h.came))
         by_stands (Opened h) =
-            subst (λ (y : g.M). (g.form c).Holds y s.memory) (sym h.is) ((all.each c inside).holds h.moment.point h.moment.memory s.memory (landed_in h.moment.progress) h.moment.event h.told h.chain.ready h.chain.wrote h.is_told h.chain.stage.standing)
+            subst (λ (y : g.M). (g.form c).Holds y s.memory) (sym h.is) ((all.each c inside).holds h.moment.point h.moment.memory s.memory
+            (written_in (window_at (g.form c).script h.moment) h.moment.progress) h.moment.event h.told h.chain.ready (λ all. h.chain.wrote (all 0)) h.is_told h.chain.stage.standing)
         by_stands (Over h) = h.holds
 
   -- one turn: the state that it leaves is in hand next
@@ -196,11 +207,11 @@ module _ (g : World) where
       rw t (omega (arith, rest))
 
   module _ (all : AllPromise g) (z : Many g.M) (begins : Begins g z) where
-    -- the entry's five actions and the first step
+    -- the entry and the first step
     abbrev first_budget : ℕ → ℕ
-    first_budget c = if nat_lt c (chains_of g) then 5 + (machine g c).cost (g.form c).begin else 0
+    first_budget c = if nat_lt c (chains_of g) then entry_cost + (machine g c).cost (g.form c).begin else 0
 
-    first_inside : (c : ℕ) → c < chains_of g → first_budget c ≡ 5 + (machine g c).cost (g.form c).begin
+    first_inside : (c : ℕ) → c < chains_of g → first_budget c ≡ entry_cost + (machine g c).cost (g.form c).begin
     first_inside c inside = let t : nat_lt c (chains_of g) ≡ true = grind (arith, nat_tests) in rw t refl
 
     first_past : (c : ℕ) → chains_of g ≤ c → first_budget c ≡ 0

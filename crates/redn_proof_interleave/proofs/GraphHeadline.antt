@@ -20,7 +20,7 @@ use Rattle.redn_proof_interleave.specs.Forms.{World, chains_of, message, message
 use Rattle.redn_proof_interleave.specs.Sources.{Sourced, Translates, Stand, Same}
 use Rattle.redn_proof_interleave.specs.Compiled.{Messages, IsCompiled}
 use Rattle.redn_proof_interleave.proofs.Headline.{compiled_is_faithful}
-use Rattle.redn_proof_interleave.specs.GraphMachines.{Followed, RunsGraph, words_in, here_of, kept_of, HasWords}
+use Rattle.redn_proof_interleave.specs.GraphMachines.{Followed, RunsGraph, mail_in, here_of, kept_of, HasWords}
 use Rattle.redn_proof_interleave.proofs.GraphMachines.{here_vars, TranslatesOne, StandOne, graph_translates, graph_stands}
 use Rattle.redn_proof_interleave.specs.RingSides.{AllFollow, followed, or_none, message_at, first_tables, Graphed, RingSide}
 
@@ -118,7 +118,7 @@ module _ (p : Program) (i : Image) (gs : List Graph) (graphed : Messages → Gra
         abbrev m : Option (List ℕ)
         m = message_at messages c
 
-        its_graph : RunsGraph M k begin at c (words_in it.f.chain m) it.f.graph it.f.chain.vars
+        its_graph : RunsGraph M k begin at c (mail_in it.f.chain m) it.f.graph it.f.chain.vars
         its_graph = r.runs_graph c it.f.chain it.f.graph it.chain it.graph
 
         one_translates : TranslatesOne M c k begin ((sourced messages).here c) ((sourced messages).kept c) ((sourced messages).Fine c)

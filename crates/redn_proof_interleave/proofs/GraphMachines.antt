@@ -3,15 +3,15 @@ use Rattle.std.proofs.Common.{◌≡◌, ℕ, zero, suc, ◌+◌, ◌≤◌, inl
 use Rattle.std.specs.Prelude.{is_some}
 use Rattle.redn_words.specs.declared.types.Obs.{Obs}
 use Rattle.redn_words.specs.Runs.{shown_then}
+use Rattle.redn_kernel.specs.Costs.{step_worth, entry_cost}
 use Rattle.redn_kernel.specs.Source.{ChainState, Turn, first_does, chain_runs, fresh_chain}
-use Rattle.redn_words.specs.Arguments.{argument_words}
 use Rattle.redn_graph.specs.declared.types.Graph.{Graph}
-use Rattle.redn_graph.specs.Run.{GraphState, graph_step, graph_start}
+use Rattle.redn_graph.specs.Run.{Mail, GraphState, in_hand, graph_step, graph_start}
 use Rattle.redn_kernel.specs.Steps.{Steps, unchanged, silently}
 use Rattle.redn_graph.specs.Follows.{turn_by, chain_start}
 use Rattle.redn_proof_interleave.specs.Machines.{Contents, Machine, Goes, AllGo, run_tables, run_state, run_events}
 use Rattle.redn_proof_interleave.specs.Sources.{source_machine}
-use Rattle.redn_proof_interleave.specs.GraphMachines.{graph_machine, Followed, words_in, here_of, kept_of, HasWords, RunsGraph}
+use Rattle.redn_proof_interleave.specs.GraphMachines.{graph_machine, Followed, mail_in, here_of, kept_of, HasWords, RunsGraph}
 use Rattle.redn_proof_interleave.proofs.Messages.{first_keeps}
 use Rattle.redn_proof_interleave.proofs.Sources.{source_cost as steps_pay}
 
@@ -54,11 +54,11 @@ steps_go c (suc n) t w turn (more, inr (shows, steps)) =
 
 pub here_vars : (o : Option Followed) (message : Option (List ℕ)) (x : GraphState) → (here_of o message x).vars ≡ x.cells.vars
 here_vars None message x = refl
-here_vars (Some f) message x = f.follows.vars (words_in f.chain message) x
+here_vars (Some f) message x = f.follows.vars (mail_in f.chain message) x
 
 -- the blocks themselves do
-pub itself_runs : (c : ℕ) (words : List ℕ) (g : Graph) (vars : List ℕ) → RunsGraph GraphState (graph_machine c words g) (graph_start g vars) (λ x. x) c words g vars
-itself_runs c words g vars =
+pub itself_runs : (c : ℕ) (mail : Mail) (g : Graph) (vars : List ℕ) → RunsGraph GraphState (graph_machine c mail g) (graph_start g vars) (λ x. x) c mail g vars
+itself_runs c mail g vars =
     record { first = refl; tables = λ x t more. refl; state = λ x t more. refl; event = λ x t more. refl; ended = λ x. refl; cost = λ x. omega arith }
 
 -- the contract between a machine and a source chain, of one chain
@@ -66,7 +66,7 @@ pub record TranslatesOne (M : Type 0) (c : ℕ) (k : Machine M) (begin : M) (her
   pub step : (x : M) (t : Contents) → Fine x → k.ended x ≡ false → Goes ChainState (source_machine c) t (here x) (shown_then (k.step t x).event []) (k.step t x).tables (here (k.step t x).state) (k.cost (k.step t x).state + kept (k.step t x).state) (kept x)
   pub fine : (x : M) (t : Contents) → Fine x → k.ended x ≡ false → Fine (k.step t x).state
   pub runs : (x : M) → Fine x → chain_runs (here x) ≡ not (k.ended x)
-  pub pays : 5 + (k.cost begin + kept begin) ≤ 160
+  pub pays : entry_cost + (k.cost begin + kept begin) ≤ step_worth
 
 -- and of a source chain that is at the first state, or some silent steps before it
 pub record StandOne (M : Type 0) (c : ℕ) (awake ended : Bool) (here : M → ChainState) (Fine : M → Type 0) (w : ChainState) (x : M) : Type 0 where
@@ -75,31 +75,32 @@ pub record StandOne (M : Type 0) (c : ℕ) (awake ended : Bool) (here : M → Ch
   pub leads : awake ≡ true → (t : Contents) → Goes ChainState (source_machine c) t w [] t (here x) 0 0
   pub fine : Fine x
 
-first_goes : (c : ℕ) (f : Followed) (words : List ℕ) (t : Contents) → SourceGoes c t (chain_start f.chain words) (f.follows.starts c words t).0 (unchanged t (f.follows.here words (graph_start f.graph f.chain.vars)))
-first_goes c f words t = let starts = f.follows.starts c words t in steps_go c starts.0 t (chain_start f.chain words) (unchanged t (f.follows.here words (graph_start f.graph f.chain.vars))) starts.1
+first_goes : (c : ℕ) (f : Followed) (mail : Mail) (t : Contents) →
+    SourceGoes c t (chain_start f.chain (in_hand mail (graph_start f.graph f.chain.vars))) (f.follows.starts c mail t).0 (unchanged t (f.follows.here mail (graph_start f.graph f.chain.vars)))
+first_goes c f mail t = let starts = f.follows.starts c mail t in steps_go c starts.0 t (chain_start f.chain (in_hand mail (graph_start f.graph f.chain.vars))) (unchanged t (f.follows.here mail (graph_start f.graph f.chain.vars))) starts.1
 
 -- a chain begins at the first state of its blocks, or some silent steps before it
 begins_there : (c : ℕ) (f : Followed) (message : Option (List ℕ)) → StandOne GraphState c (is_some message) false (here_of (Some f) message) (HasWords (Some f) message) (fresh_chain f.chain message) (graph_start f.graph f.chain.vars)
 begins_there c f None =
     record {
-      vars = sym (f.follows.vars [] (graph_start f.graph f.chain.vars));
+      vars = sym (f.follows.vars (mail_in f.chain None) (graph_start f.graph f.chain.vars));
       runs = refl;
       leads = λ woken t. absurd (cc (woken));
-      fine = (first_goes c f [] []).message;
+      fine = (first_goes c f (mail_in f.chain None) []).message;
     }
 begins_there c f (Some bytes) =
     record {
-      vars = sym (f.follows.vars (argument_words bytes 0 f.chain.args) (graph_start f.graph f.chain.vars));
+      vars = sym (f.follows.vars (mail_in f.chain (Some bytes)) (graph_start f.graph f.chain.vars));
       runs = refl;
       leads = λ woken t.
-          let goes = first_goes c f (argument_words bytes 0 f.chain.args) t in
-          record { steps = (f.follows.starts c (argument_words bytes 0 f.chain.args) t).0; go = goes.go; telling = goes.telling; tables = goes.tables; state = goes.state; enough = omega arith };
-      fine = (first_goes c f (argument_words bytes 0 f.chain.args) []).message;
+          let goes = first_goes c f (mail_in f.chain (Some bytes)) t in
+          record { steps = (f.follows.starts c (mail_in f.chain (Some bytes)) t).0; go = goes.go; telling = goes.telling; tables = goes.tables; state = goes.state; enough = omega arith };
+      fine = (first_goes c f (mail_in f.chain (Some bytes)) []).message;
     }
 
-module _ (c : ℕ) (f : Followed) (message : Option (List ℕ)) (M : Type 0) (k : Machine M) (begin : M) (as_graph : M → GraphState) (r : RunsGraph M k begin as_graph c (words_in f.chain message) f.graph f.chain.vars) where
-  abbrev words : List ℕ
-  words = words_in f.chain message
+module _ (c : ℕ) (f : Followed) (message : Option (List ℕ)) (M : Type 0) (k : Machine M) (begin : M) (as_graph : M → GraphState) (r : RunsGraph M k begin as_graph c (mail_in f.chain message) f.graph f.chain.vars) where
+  abbrev mail : Mail
+  mail = mail_in f.chain message
 
   abbrev here : M → ChainState
   here x = here_of (Some f) message (as_graph x)
@@ -110,26 +111,26 @@ module _ (c : ℕ) (f : Followed) (message : Option (List ℕ)) (M : Type 0) (k 
   abbrev Fine : M → Type 0
   Fine x = HasWords (Some f) message (as_graph x)
 
-  matched_goes : (t : Contents) (x : GraphState) → SourceGoes c t (f.follows.here words x) (f.follows.matched c words t x).count (turn_by (f.follows.here words) (graph_step c words t x f.graph))
-  matched_goes t x = let m = f.follows.matched c words t x in steps_go c m.count t (f.follows.here words x) (turn_by (f.follows.here words) (graph_step c words t x f.graph)) m.steps
+  matched_goes : (t : Contents) (x : GraphState) → SourceGoes c t (f.follows.here mail x) (f.follows.matched c mail t x).count (turn_by (f.follows.here mail) (graph_step c mail t x f.graph))
+  matched_goes t x = let m = f.follows.matched c mail t x in steps_go c m.count t (f.follows.here mail x) (turn_by (f.follows.here mail) (graph_step c mail t x f.graph)) m.steps
 
   -- a state's worth is its step's cost and what is kept
   worth_is : (x : M) → k.cost x + kept x ≡ f.follows.worth (as_graph x)
   worth_is x =
-      let within = (f.follows.matched c words [] (as_graph x)).within in
+      let within = (f.follows.matched c mail [] (as_graph x)).within in
       let cost = r.cost x in
       omega (arith, within, cost)
 
   step_goes : (x : M) (t : Contents) → k.ended x ≡ false → Goes ChainState (source_machine c) t (here x) (shown_then (k.step t x).event []) (k.step t x).tables (here (k.step t x).state) (k.cost (k.step t x).state + kept (k.step t x).state) (kept x)
   step_goes x t more =
-      let m = f.follows.matched c words t (as_graph x) in
+      let m = f.follows.matched c mail t (as_graph x) in
       let goes = matched_goes t (as_graph x) in
       record {
         steps = m.count;
         go = goes.go;
         telling = goes.telling ∙ sym (ap (λ (e : Obs). shown_then e []) (r.event x t more));
         tables = goes.tables ∙ sym (r.tables x t more);
-        state = goes.state ∙ sym (ap (f.follows.here words) (r.state x t more));
+        state = goes.state ∙ sym (ap (f.follows.here mail) (r.state x t more));
         enough =
             let paid = m.paid in
             let now = worth_is x in
@@ -144,13 +145,13 @@ module _ (c : ℕ) (f : Followed) (message : Option (List ℕ)) (M : Type 0) (k 
   graph_translates =
       record {
         step = λ x t fine more. step_goes x t more;
-        fine = λ x t fine more. ap (λ (y : GraphState). (f.follows.here words y).message) (r.state x t more) ∙ (matched_goes t (as_graph x)).message ∙ fine;
-        runs = λ x fine. let same = r.ended x in let ended = f.follows.ended words (as_graph x) in rw (fine, ended, same) refl;
+        fine = λ x t fine more. ap (λ (y : GraphState). (f.follows.here mail y).message) (r.state x t more) ∙ (matched_goes t (as_graph x)).message ∙ fine;
+        runs = λ x fine. let same = r.ended x in let ended = f.follows.ended mail (as_graph x) in rw (fine, ended, same) refl;
         pays =
-            let affords = f.follows.affords in
+            let low = f.follows.entry in
             let now = worth_is begin in
             let same = ap f.follows.worth r.first in
-            omega (arith, affords, now, same);
+            omega (arith, low, now, same);
       }
 
   pub graph_stands : StandOne M c (is_some message) (k.ended begin) here Fine (fresh_chain f.chain message) begin

@@ -12,7 +12,7 @@ use Rattle.redn_words.specs.Words.{bytes_at}
 use Rattle.redn_kernel.specs.Source.{bytes_of}
 use Rattle.redn_kernel.specs.declared.types.Program.{Program}
 use Rattle.redn_graph.specs.declared.types.Graph.{Graph}
-use Rattle.redn_graph.specs.Run.{GraphState, graph_step}
+use Rattle.redn_graph.specs.Run.{Mail, GraphState, graph_step}
 use Rattle.redn_image.specs.Rules.{Image}
 use Rattle.redn_image.specs.Agreement.{Fits, HoldsVariables, places_of, variables_of}
 use Rattle.redn_image.specs.Faithful.{AreMessages, start_of}
@@ -22,7 +22,7 @@ use Rattle.redn_proof_interleave.specs.Forms.{World, chains_of, awake, machine, 
 use Rattle.redn_proof_interleave.specs.Explains.{Begins, ExplainsAll, Runs, after_turns, costs, turns_tell}
 use Rattle.redn_proof_interleave.specs.Compiled.{Messages}
 use Rattle.redn_proof_interleave.proofs.Explained.{every_order}
-use Rattle.redn_proof_interleave.specs.GraphMachines.{RunsGraph, words_in}
+use Rattle.redn_proof_interleave.specs.GraphMachines.{RunsGraph, mail_in}
 use Rattle.redn_proof_interleave.specs.RingSides.{Graphed, RingSide, first_tables, message_at, or_none}
 use Rattle.redn_proof_interleave.specs.FaithfulToGraphs.{ExplainsGraphs, FaithfulToGraphs, blocks_of, costs_from, graph_at, graphs_begin, init_at, no_blocks, no_init, woken}
 use Rattle.redn_proof_interleave.proofs.GraphHeadline.{first_length, first_message, one_each}
@@ -56,7 +56,7 @@ module _ (p : Program) (i : Image) (gs : List Graph) (messages : Messages) (are 
     | inr far ↦ absurd (let same = one_each p.chains messages are in let none = slice_get_past messages c (omega (arith, same, far)) in let off : up c ≡ false = ap (λ (o : Option (Option (List ℕ))). is_some (or_none o)) none in let both : true ≡ false = sym has ∙ off in cc)
   ]
 
-  its : (c : ℕ) → c < length p.chains → RunsGraph M (machine g c) (g.form c).begin (graphed.as_graph c) c (words_in (init_at p gs messages c) (message_at messages c)) (graph_at p gs messages c) (init_at p gs messages c).vars
+  its : (c : ℕ) → c < length p.chains → RunsGraph M (machine g c) (g.form c).begin (graphed.as_graph c) c (mail_in (init_at p gs messages c) (message_at messages c)) (graph_at p gs messages c) (init_at p gs messages c).vars
   its c low = r.runs_graph c (init_at p gs messages c) (graph_at p gs messages c) (slice_get-get_or p.chains c no_init low) (slice_get-get_or gs c no_blocks (omega (arith, low, count)))
 
   -- the graphs are where the rings are
@@ -75,7 +75,8 @@ module _ (p : Program) (i : Image) (gs : List Graph) (messages : Messages) (are 
       abbrev turn : MachineTurn M
       turn = (machine g c).step z.tables (z.at c)
 
-      same_turn : graph_step c (words_in (init_at p gs messages c) (message_at messages c)) y.tables (y.at c) (graph_at p gs messages c) ≡ graph_step c (words_in (init_at p gs messages c) (message_at messages c)) z.tables (graphed.as_graph c (z.at c)) (graph_at p gs messages c)
+      same_turn : graph_step c (mail_in (init_at p gs messages c) (message_at messages c)) y.tables (y.at c) (graph_at p gs messages c) ≡ graph_step c (mail_in (init_at p gs messages c) (message_at messages c)) z.tables
+          (graphed.as_graph c (z.at c)) (graph_at p gs messages c)
       same_turn = rw (b.tables, b.at c low) refl
 
       same_tells : many_tells S blocks up y c ≡ many_tells M (machine g) (awake g) z c
@@ -88,14 +89,14 @@ module _ (p : Program) (i : Image) (gs : List Graph) (messages : Messages) (are 
             at = λ d known. by_number d known (d == c) refl;
           }
         where
-          words : List ℕ
-          words = words_in (init_at p gs messages c) (message_at messages c)
+          mail : Mail
+          mail = mail_in (init_at p gs messages c) (message_at messages c)
 
-          here : (graph_step c words y.tables (y.at c) (graph_at p gs messages c)).state ≡ graphed.as_graph c turn.state
+          here : (graph_step c mail y.tables (y.at c) (graph_at p gs messages c)).state ≡ graphed.as_graph c turn.state
           here = ap (λ t. t.state) same_turn ∙ sym ((its c low).state (z.at c) z.tables more)
 
           by_number : (d : ℕ) → d < length p.chains → (v : Bool) → (d == c) ≡ v → (many_step S blocks up y c).at d ≡ graphed.as_graph d ((many_step M (machine g) (awake g) z c).at d)
-          by_number d known true e = rw e (subst (λ (n : ℕ). (graph_step c words y.tables (y.at c) (graph_at p gs messages c)).state ≡ graphed.as_graph n turn.state) (sym (eqb-true d c e)) here)
+          by_number d known true e = rw e (subst (λ (n : ℕ). (graph_step c mail y.tables (y.at c) (graph_at p gs messages c)).state ≡ graphed.as_graph n turn.state) (sym (eqb-true d c e)) here)
           by_number d known false e = rw e (b.at d known)
 
   -- the cost of a step in hand

@@ -19,8 +19,10 @@ use Rattle.redn_words.proofs.Others.{acting_there, may_raise_row, set_other, set
 use Rattle.redn_words.specs.Others.{row_may_raise}
 use Rattle.redn_words.specs.Laws.{row_of}
 use Rattle.redn_words.proofs.Domains.{length_stays}
-use Rattle.redn_proof_window.specs.Stages.{Progress, landed_in}
-use Rattle.redn_proof_window.specs.Windows.{Opening, bodies_of, landing_on}
+use Rattle.redn_proof_window.specs.Stages.{Progress, landed_in, written_in, all_written}
+use Rattle.redn_proof_window.specs.Windows.{Opening, bodies_of, place_of, landing_on}
+use Rattle.redn_proof_window.proofs.Counters.{no_gate_counts}
+use Rattle.redn_proof_window.proofs.Places.{place_below}
 use Rattle.redn_proof_window.proofs.Marks.{landed_before, landed_past}
 use Rattle.redn_proof_window.specs.Moves.{budget, budget_of, cost, Quiet, Telling, Faulting}
 use Rattle.redn_proof_window.proofs.Ends.{first_budget}
@@ -198,7 +200,8 @@ module _ (g : World) where
             let o = k.opens s.memory ready in
             let enable = enable_passes f.entry k.entry.orderly s h.u h.passed stage pass (ap class_of enable_is ∙ k.entry.enables) may apart_from in
             let is : after s (Start f.entry.queue) ≡ record s { queues = enabled_in (slice_set s.queues f.entry.queue (past_head h.u)) (f.script.window f.first s.memory).queue (gate_of f.entry h.passed).second } = enable.is ∙ ap (λ (q : ℕ). record s { queues = enabled_in (slice_set s.queues f.entry.queue (past_head h.u)) q (gate_of f.entry h.passed).second }) queue_is in
-            let begun = entry_opens f.script k.script s f.first ready h.rests (Start f.entry.queue) (slice_set s.queues f.entry.queue (past_head h.u)) (gate_of f.entry h.passed).second (r.regions ∙ o.regions) (λ q ring. set_other s.queues f.entry.queue q (past_head h.u) (ring_apart q ring)) is (ap (λ (q : Request). q.second) enable_is ∙ o.limit) in
+            let begun = entry_opens f.script k.script s f.first ready (λ x m readied. no_gate_counts (f.script.window x m) s (k.no_first_gate x m)) h.rests (Start f.entry.queue) (slice_set s.queues f.entry.queue (past_head h.u))
+            (gate_of f.entry h.passed).second (r.regions ∙ o.regions) (λ q ring. set_other s.queues f.entry.queue q (past_head h.u) (ring_apart q ring)) is (ap (λ (q : Request). q.second) enable_is ∙ o.limit) in
             let two = k.entry.two in
             let begin = k.begins s.memory z.tables ready in
             let few = first_budget (f.script.window f.first s.memory) begun.0.held in
@@ -210,7 +213,7 @@ module _ (g : World) where
               moment = opened f.script f.first s.memory begun.0;
               told = None;
               chain = begun.1;
-              is_told = λ inside. landed_past 0 [] (f.script.window f.first s.memory).event (omega arith);
+              is_told = λ inside p. landed_past 0 [] (place_of (f.script.window f.first s.memory) (f.script.window f.first s.memory).event) (omega arith);
               over = record { u = past_head h.u; there = enable.next.there; rest = rest_like (gates_rest f.entry (past_head h.u) (h.passed + 1) enable.next.queue (omega arith)) refl (sym two) refl };
               mailed = (mailed.0, mailed.1, ap (λ (t : State). slice_get t.chains c) enable.is ∙ mailed.2);
               is = refl;
@@ -289,9 +292,10 @@ module _ (g : World) where
         size_after : length (after s a).memory ≡ length s.memory
         size_after = length_stays s q u there (ends_here g all n s z budgets r) a its
 
-        told_still : (now : Progress) (told : Option (List Change)) → (w.event < bodies_of w → landed_in now w.event ≡ landed_in progress w.event) → IsTold w (landed_in progress) h.moment.event told → IsTold w (landed_in now) h.moment.event told
-        told_still now None same t = λ inside. same inside ∙ t inside
-        told_still now (Some e) same t = (t.0, same t.0 ∙ t.1, t.2)
+        told_still : (now : Progress) (told : Option (List Change)) → (w.event < bodies_of w → landed_in w now w.event ≡ landed_in w progress w.event) → IsTold w (written_in w progress) h.moment.event told
+            → IsTold w (written_in w now) h.moment.event told
+        told_still now None same t = λ inside p. same inside ∙ t inside p
+        told_still now (Some e) same t = (t.0, (λ p. same t.0 ∙ t.1 p), t.2)
 
         window_turns : (quiet : Quiet w s progress h.moment.event a) → ChainAt f.script (after s a) (record h.moment { progress = quiet.now }) → Acts c s z.tables y a b
         window_turns m chain =
@@ -310,9 +314,9 @@ module _ (g : World) where
             }) (omega (arith, spends, enough))
 
         -- before the event has landed
-        untold : (told : Option (List Change)) → w.event < bodies_of w → landed_in progress w.event ≡ false → IsTold w (landed_in progress) h.moment.event told → told ≡ None
+        untold : (told : Option (List Change)) → w.event < bodies_of w → landed_in w progress w.event ≡ false → IsTold w (written_in w progress) h.moment.event told → told ≡ None
         untold None inside unlanded t = refl
-        untold (Some e) inside unlanded t = absurd (true≢false (sym t.1 ∙ unlanded))
+        untold (Some e) inside unlanded t = absurd (true≢false (sym (t.1 0) ∙ unlanded))
 
         event_tells : (telling : Telling w s progress h.moment.event a) → ChainAt f.script (after s a) (record h.moment { progress = telling.now; event = (landing_on w s.memory w.event).writes }) → Acts c s z.tables y a b
         event_tells m chain =
@@ -328,7 +332,7 @@ module _ (g : World) where
               moment = record h.moment { progress = m.now; event = writes };
               told = Some writes;
               chain = chain;
-              is_told = (m.inside, m.lands, refl);
+              is_told = (m.inside, (λ p. m.lands), refl);
               over = over_after h.over a q u its ring there;
               mailed = mailed_after h.mailed a q u its there;
               is = refl;
@@ -345,7 +349,8 @@ module _ (g : World) where
             let spends = m.spends in
             let enough = h.enough in
             let memory : (after s a).memory ≡ s.memory = ap (λ (t : State). t.memory) m.is in
-            let holds : f.Holds (f.state x None) s.memory = subst (λ (told : Option (List Change)). f.Holds (f.state x told) s.memory) none (k.holds x h.moment.memory s.memory (landed_in progress) h.moment.event h.told h.chain.ready h.chain.wrote h.is_told h.chain.stage.standing) in
+            let holds : f.Holds (f.state x None) s.memory = subst (λ (told : Option (List Change)). f.Holds (f.state x told) s.memory) none
+            (k.holds x h.moment.memory s.memory (written_in w progress) h.moment.event h.told h.chain.ready (λ all. h.chain.wrote (all 0)) h.is_told h.chain.stage.standing) in
             stepping a y (f.failed x) b 0 0 0 z.tables (woken_by s h.mailed) (subst IsClean (sym m.telling) t.clean) (subst (g.Tables z.tables) (sym memory) r.tables)
             (subst (λ (v : g.M). Goes g.M f.machine z.tables v (shown_then (shown s a) []) z.tables (f.failed x) 0 0) (sym before) (subst (λ (o : Obs). Goes g.M f.machine z.tables (f.state x None) (shown_then o []) z.tables (f.failed x) 0 0) (sym m.telling) t.goes))
             (Over record {
@@ -367,8 +372,9 @@ module _ (g : World) where
         -- the next window opens
         goes_further : Going f.script k.script s h.moment h.chain a → Acts c s z.tables y a b
         goes_further m =
-            let all_landed : (j : ℕ) → j < bodies_of w → landed_in progress j ≡ true = λ j inside. let over = m.all in landed_before progress.done progress.marks j (omega arith) in
-            let told : IsTold w (λ j. true) h.moment.event h.told = all_told h.told (λ inside. all_landed w.event inside) h.is_told in
+            let all_landed : (j : ℕ) → j < bodies_of w → landed_in w progress j ≡ true = λ j inside. let over = m.all in let below = place_below w j (bodies_of w) inside in
+            landed_before progress.done progress.marks (place_of w j) (omega (arith, over, below)) in
+            let told : IsTold w all_written h.moment.event h.told = all_told h.told (λ inside. all_landed w.event inside) h.is_told in
             let then : Point g c = (k.script.behind x h.moment.memory h.moment.event s.memory m.over).0 in
             let goes = k.moves_on x h.moment.memory h.moment.event s.memory h.told z.tables m.over told in
             let cheap = first_budget (f.script.window then s.memory) m.then_queue.held in
@@ -380,7 +386,7 @@ module _ (g : World) where
               moment = opened f.script then s.memory m.then_queue;
               told = None;
               chain = m.next;
-              is_told = λ inside. landed_past 0 [] (f.script.window then s.memory).event (omega arith);
+              is_told = λ inside p. landed_past 0 [] (place_of (f.script.window then s.memory) (f.script.window then s.memory).event) (omega arith);
               over = over_after h.over a q u its ring there;
               mailed = mailed_after h.mailed a q u its there;
               is = refl;
@@ -388,9 +394,9 @@ module _ (g : World) where
             })
             (λ gain brings. omega (arith, cheap, spends, enough, brings))
           where
-            all_told : (told : Option (List Change)) → (w.event < bodies_of w → landed_in progress w.event ≡ true) → IsTold w (landed_in progress) h.moment.event told → IsTold w (λ j. true) h.moment.event told
-            all_told None lands t = λ inside. absurd (true≢false (sym (lands inside) ∙ t inside))
-            all_told (Some e) lands t = (t.0, refl, t.2)
+            all_told : (told : Option (List Change)) → (w.event < bodies_of w → landed_in w progress w.event ≡ true) → IsTold w (written_in w progress) h.moment.event told → IsTold w all_written h.moment.event told
+            all_told None lands t = λ inside p. absurd (true≢false (sym (lands inside) ∙ t inside p))
+            all_told (Some e) lands t = (t.0, (λ p. refl), t.2)
 
         by_moves : Moves a → Acts c s z.tables y a b
         by_moves (Stays m chain) = window_turns m chain

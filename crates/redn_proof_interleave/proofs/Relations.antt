@@ -4,7 +4,7 @@ use Rattle.redn_words.specs.declared.types.QueueRow.{QueueRow}
 use Rattle.redn_words.specs.States.{Queue, Delivered, State}
 use Rattle.redn_words.specs.Landings.{Change}
 use Rattle.redn_words.specs.Laws.{row_at}
-use Rattle.redn_proof_window.specs.Stages.{landed_in}
+use Rattle.redn_proof_window.specs.Stages.{written_in}
 use Rattle.redn_proof_window.specs.Moves.{AtRest, budget_of}
 use Rattle.redn_proof_window.specs.Gateways.{GateQueue, gate_budget}
 use Rattle.redn_proof_window.specs.Scripts.{IsBytes, RestsAt, Moment, window_at, ChainAt}
@@ -49,7 +49,7 @@ module _ (g : World) where
       pub moment : Moment f.script
       pub told : Option (List Change)
       pub chain : ChainAt f.script s moment
-      pub is_told : IsTold (window_at f.script moment) (landed_in moment.progress) moment.event told
+      pub is_told : IsTold (window_at f.script moment) (written_in (window_at f.script moment) moment.progress) moment.event told
       pub over : EntryOver s
       pub mailed : Mailed s true
       pub is : y ≡ f.state moment.point told

@@ -12,7 +12,7 @@ use Rattle.redn_graph.specs.declared.types.End.TheVariants.{Jump, Test48, Test64
 use Rattle.redn_graph.specs.declared.types.Block.{Block}
 use Rattle.redn_graph.specs.declared.types.Graph.{Graph}
 use Rattle.redn_kernel.specs.CoreRun.{Cells}
-use Rattle.redn_graph.specs.Run.{GraphState, GraphTurn, Effect, Way, On, To, Out, holds, effect, sets, goes, within, loads, instr_does, end_does, state_on, graph_turn, stays, instr_or_end, block_turn, graph_step}
+use Rattle.redn_graph.specs.Run.{Mail, GraphState, in_hand, GraphTurn, Effect, Way, On, To, Out, holds, effect, sets, goes, within, loads, instr_does, end_does, state_on, graph_turn, stays, instr_or_end, block_turn, graph_step}
 use Rattle.redn_proof_interleave.specs.Machines.{Contents}
 
 -- what an effect under other tables is
@@ -81,7 +81,7 @@ pub record SilentTurn (t u : Contents) (x : GraphState) (turn other : GraphTurn)
   pub again : other ≡ record { tables = u; state = turn.state; event = shows.Nothing }
   pub vars : turn.state.cells.vars ≡ x.cells.vars
 
-module _ (c : ℕ) (words : List ℕ) (t u : Contents) (x : GraphState) where
+module _ (c : ℕ) (mail : Mail) (t u : Contents) (x : GraphState) where
   turn_quiet : (e d : Effect) → Quiet t u x.cells e d → SilentTurn t u x (graph_turn x e) (graph_turn x d)
   turn_quiet e d q =
       record {
@@ -90,21 +90,21 @@ module _ (c : ℕ) (words : List ℕ) (t u : Contents) (x : GraphState) where
         vars = ap (λ (s : Cells). s.vars) (cells_on x e.cells e.way) ∙ q.vars;
       }
 
-  place_quiet : (i : Option Instr) (end : End) → (instr_or_end c words t x i end).event ≡ shows.Nothing → Quiet t u x.cells (instr_or_end c words t x i end) (instr_or_end c words u x i end)
-  place_quiet (Some i) end silent = instr_quiet c words t u x.cells i silent
-  place_quiet None end silent = end_quiet c words t u x.cells x.taking end silent
+  place_quiet : (i : Option Instr) (end : End) → (instr_or_end c mail t x i end).event ≡ shows.Nothing → Quiet t u x.cells (instr_or_end c mail t x i end) (instr_or_end c mail u x i end)
+  place_quiet (Some i) end silent = instr_quiet c (in_hand mail x) t u x.cells i silent
+  place_quiet None end silent = end_quiet c (in_hand mail x) t u x.cells x.taking end silent
 
   stays_quiet : SilentTurn t u x (stays t x) (stays u x)
   stays_quiet = record { tables = refl; again = refl; vars = refl }
 
-  block_quiet : (b : Option Block) → (block_turn c words t x b).event ≡ shows.Nothing → SilentTurn t u x (block_turn c words t x b) (block_turn c words u x b)
+  block_quiet : (b : Option Block) → (block_turn c mail t x b).event ≡ shows.Nothing → SilentTurn t u x (block_turn c mail t x b) (block_turn c mail u x b)
   block_quiet None silent = stays_quiet
-  block_quiet (Some b) silent = turn_quiet (instr_or_end c words t x (slice_get b.instrs x.place) b.end) (instr_or_end c words u x (slice_get b.instrs x.place) b.end) (place_quiet (slice_get b.instrs x.place) b.end silent)
+  block_quiet (Some b) silent = turn_quiet (instr_or_end c mail t x (slice_get b.instrs x.place) b.end) (instr_or_end c mail u x (slice_get b.instrs x.place) b.end) (place_quiet (slice_get b.instrs x.place) b.end silent)
 
   ended_quiet : (ended : Bool) (turn other : GraphTurn) → (turn.event ≡ shows.Nothing → SilentTurn t u x turn other) → (if ended then stays t x else turn).event ≡ shows.Nothing → SilentTurn t u x (if ended then stays t x else turn) (if ended then stays u x else other)
   ended_quiet true turn other quiet silent = stays_quiet
   ended_quiet false turn other quiet silent = quiet silent
 
-  pub silent_step : (g : Graph) → (graph_step c words t x g).event ≡ shows.Nothing → SilentTurn t u x (graph_step c words t x g) (graph_step c words u x g)
+  pub silent_step : (g : Graph) → (graph_step c mail t x g).event ≡ shows.Nothing → SilentTurn t u x (graph_step c mail t x g) (graph_step c mail u x g)
   unfolding graph_step
-  silent_step g silent = ended_quiet x.ended (block_turn c words t x (slice_get g.blocks x.block)) (block_turn c words u x (slice_get g.blocks x.block)) (block_quiet (slice_get g.blocks x.block)) silent
+  silent_step g silent = ended_quiet x.ended (block_turn c mail t x (slice_get g.blocks x.block)) (block_turn c mail u x (slice_get g.blocks x.block)) (block_quiet (slice_get g.blocks x.block)) silent

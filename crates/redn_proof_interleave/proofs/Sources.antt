@@ -10,6 +10,7 @@ use Rattle.redn_words.specs.declared.types.Action.{Action}
 use Rattle.redn_words.specs.Runs.{AllPossible, reached, shown_then, useful_for}
 use Rattle.redn_words.specs.Words.{bytes_at}
 use Rattle.redn_words.proofs.Others.{set_here, set_other}
+use Rattle.redn_kernel.specs.Costs.{step_worth}
 use Rattle.redn_kernel.specs.Source.{ChainState, Source, bytes_of, first_does, chain_runs, runs_there, is_running, source_step, after_turn, EachRuns, source_after, events, steps_of}
 use Rattle.redn_kernel.proofs.SourceRuns.{source_after_append, events_append, EachRuns_append, runs}
 use Rattle.redn_image.specs.Agreement.{HoldsVariables, variables_of, places_of}
@@ -64,7 +65,7 @@ steps_append c (x ∷ xs) ys =
     let other = sum_by-cons (λ (e : ℕ). if e == c then 1 else 0) x xs in
     omega (arith, rest, one, other)
 
-pub source_cost : (c n : ℕ) (t : Contents) (w : ChainState) → run_cost ChainState (source_machine c) n t w ≡ 160 * n
+pub source_cost : (c n : ℕ) (t : Contents) (w : ChainState) → run_cost ChainState (source_machine c) n t w ≡ step_worth * n
 unfolding source_machine
 source_cost c zero t w = refl
 source_cost c (suc n) t w = let rest = source_cost c n (first_does c t w w.items).tables (first_does c t w w.items).chain in omega (arith, rest)
@@ -88,7 +89,7 @@ module _ (sourced : Sourced) where
     pub each : EachRuns s turns
     pub telling : events s turns ≡ shown_then (many_tells g.M (machine g) (awake g) z c) []
     pub same : Same sourced (many_step g.M (machine g) (awake g) z c) (source_after s turns)
-    pub paid : (d : ℕ) → (if c == d then (machine g c).cost (turn_of g.M (machine g) (awake g) z c).state else 0) + kept d ((many_step g.M (machine g) (awake g) z c).at d) ≤ kept d (z.at d) + 160 * steps_of d turns
+    pub paid : (d : ℕ) → (if c == d then (machine g c).cost (turn_of g.M (machine g) (awake g) z c).state else 0) + kept d ((many_step g.M (machine g) (awake g) z c).at d) ≤ kept d (z.at d) + step_worth * steps_of d turns
 
   module _ (z : Many g.M) (s : Source) (h : Same sourced z s) (c : ℕ) (l : c < chains_of g) (k : Translates sourced c) (woken : awake g c ≡ true) (more : (machine g c).ended (z.at c) ≡ false) where
     abbrev x : g.M
@@ -170,10 +171,10 @@ module _ (sourced : Sourced) where
     telling_is =
         events_append s (replicate silent.steps c) (replicate step_goes.steps c) ∙ ap (λ (xs : List Obs). xs ++ events middle (replicate step_goes.steps c)) (first.telling ∙ silent.telling) ∙ second.telling ∙ ap (λ (t : Contents). run_events ChainState (source_machine c) step_goes.steps t (here c x)) middle_tables ∙ step_goes.telling
 
-    paid_after : (d : ℕ) → (if c == d then (machine g c).cost y else 0) + kept d ((many_step g.M (machine g) (awake g) z c).at d) ≤ kept d (z.at d) + 160 * steps_of d both
+    paid_after : (d : ℕ) → (if c == d then (machine g c).cost y else 0) + kept d ((many_step g.M (machine g) (awake g) z c).at d) ≤ kept d (z.at d) + step_worth * steps_of d both
     paid_after d =
         elim (cases_eq d c) [
-          | inl same ↦ subst (λ (e : ℕ). (if c == e then (machine g c).cost y else 0) + kept e ((many_step g.M (machine g) (awake g) z c).at e) ≤ kept e (z.at e) + 160 * steps_of e both) (sym same) own
+          | inl same ↦ subst (λ (e : ℕ). (if c == e then (machine g c).cost y else 0) + kept e ((many_step g.M (machine g) (awake g) z c).at e) ≤ kept e (z.at e) + step_worth * steps_of e both) (sym same) own
           | inr ne ↦
               let apart : (c == d) ≡ false = false_from_ne_true (c == d) (λ t. ne (sym (eqb-true c d t))) in
               let left = ap (kept d) (elsewhere d ne) in
@@ -181,7 +182,7 @@ module _ (sourced : Sourced) where
               omega (arith, left, none)
         ]
       where
-        own : (if c == c then (machine g c).cost y else 0) + kept c ((many_step g.M (machine g) (awake g) z c).at c) ≤ kept c x + 160 * steps_of c both
+        own : (if c == c then (machine g c).cost y else 0) + kept c ((many_step g.M (machine g) (awake g) z c).at c) ≤ kept c x + step_worth * steps_of c both
         own =
             let same : (c == c) ≡ true = eq-eqb c c refl in
             let gain : ◌≡◌ {A = ℕ} (if c == c then (machine g c).cost y else 0) ((machine g c).cost y) = rw same refl in
@@ -209,7 +210,7 @@ module _ (sourced : Sourced) where
     pub each : EachRuns s list
     pub telling : events s list ≡ turns_tell g z turns
     pub same : Same sourced (after_turns g z turns) (source_after s list)
-    pub paid : (d : ℕ) → turns_earn g d z turns + kept d ((after_turns g z turns).at d) ≤ kept d (z.at d) + 160 * steps_of d list
+    pub paid : (d : ℕ) → turns_earn g d z turns + kept d ((after_turns g z turns).at d) ≤ kept d (z.at d) + step_worth * steps_of d list
 
   translate : ((c : ℕ) → c < chains_of g → Translates sourced c) → (turns : List ℕ) (z : Many g.M) (s : Source) → Same sourced z s → Runs g z turns → AreTurns z s turns
   translate k [] z s h runs = record { list = []; each = tt; telling = refl; same = h; paid = λ d. omega arith }
@@ -259,7 +260,7 @@ module _ (sourced : Sourced) where
           subst (λ (v : List ℕ). All (HoldsVariables m v) (variables_of c g.begin.regions)) vars (variables c (z.at c) m inside (holds c inside))
       by_place c w there (inr far) same holds = let none = same.past c far in absurd (cc (none, there))
 
-      enough : (c : ℕ) → (c < chains_of g) ⊎ (chains_of g ≤ c) → {turns : List ℕ} → (are : AreTurns z s turns) → ExplainsAll g z acts turns → useful_for c g.begin acts ≤ 160 * (steps_of c are.list + 1)
+      enough : (c : ℕ) → (c < chains_of g) ⊎ (chains_of g ≤ c) → {turns : List ℕ} → (are : AreTurns z s turns) → ExplainsAll g z acts turns → useful_for c g.begin acts ≤ step_worth * (steps_of c are.list + 1)
       enough c (inl inside) {turns = turns} are run =
           let useful = run.few c inside in
           let sum = earned_costs g c turns z in

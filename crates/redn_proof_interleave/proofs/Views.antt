@@ -18,6 +18,7 @@ use Rattle.redn_words.proofs.Deliveries.{delivered_is, length-delivered, byte-de
 use Rattle.redn_words.specs.Access.{EndsBy}
 use Rattle.redn_words.proofs.Others.{set_other, regions_stay}
 use Rattle.redn_proof_window.specs.Gateways.{GateStage}
+use Rattle.redn_proof_window.proofs.Counters.{no_gate_counts}
 use Rattle.redn_proof_window.proofs.Chains.{chain_stays}
 use Rattle.redn_proof_interleave.specs.Machines.{Many}
 use Rattle.redn_words.proofs.Inside.{chains_stay}
@@ -64,6 +65,7 @@ module _ (g : World) where
             chain = chain_stays f.script k.script s h.moment h.chain t record {
               queues = λ q r. e.queues q (inr r);
               regions = e.regions;
+              counts = λ all x m ready. no_gate_counts (f.script.window x m) t (k.no_first_gate x m);
               size = e.size;
               bytes = λ p own. e.bytes p (k.ours h.moment.point h.moment.memory p own);
             };

@@ -1,5 +1,5 @@
 -- Two chains that store their number into the same word of a table, and then reply: an example of the promises, so that they aren't void.
-use Rattle.std.proofs.Common.{◌≡◌, ◌≢◌, ℕ, zero, suc, ◌+◌, ◌*◌, ◌%◌, ◌^◌, ◌<◌, ◌≤◌, inl, inr, Bool, true, false, ◌==◌, List, [], ◌∷◌, Some, length, refl, sym, ap, subst, ◌∙◌, arith}
+use Rattle.std.proofs.Common.{◌≡◌, ◌≢◌, ℕ, zero, suc, ◌+◌, ◌*◌, ◌%◌, ◌^◌, ◌<◌, ◌≤◌, Bool, true, false, ◌==◌, List, [], ◌∷◌, Some, None, length, refl, sym, ap, subst, ◌∙◌, arith}
 use Rattle.std.specs.Prelude.{if◌then◌else◌, slice_index_or}
 use Rattle.std.proofs.lemmas.Bool.{eq-eqb, eqb-true, false_from_ne_true}
 use Rattle.redn_words.specs.declared.types.Class.TheVariants as ask
@@ -21,8 +21,8 @@ use Rattle.redn_words.specs.Others.{row_may_raise}
 use Rattle.redn_proof_window.proofs.Ends.{byte_kept}
 use Rattle.redn_words.proofs.Slots.{decoded-encoded}
 use Rattle.redn_words.specs.Slots.{IsNarrow}
-use Rattle.redn_proof_window.specs.Windows.{Opening, landing_on, request_of, slot_at, copy_of, wait_of, enable_of}
-use Rattle.redn_proof_window.specs.Stages.{Orderly, Gated, Agrees, Standing}
+use Rattle.redn_proof_window.specs.Windows.{By_gates, Last, Opening, landing_on, request_of, slot_at, copy_of, wait_of, enable_of}
+use Rattle.redn_proof_window.specs.Stages.{Orderly, Gated, Agrees, Standing, all_written}
 use Rattle.redn_proof_window.proofs.Placed.{Placed, placed_is_orderly, writes_of}
 use Rattle.redn_proof_window.proofs.Raised.{range}
 use Rattle.redn_proof_window.specs.Scripts.{Script, IsOver, Behind, IsScript}
@@ -98,8 +98,10 @@ window c Stores m =
       queue = 2 * c + 1;
       row = ring_row c;
       from = 0;
+      first_gate = None;
       bodies = encoded (store c) ∷ [];
       gates = encoded (wait c) ∷ encoded (enable c 4) ∷ [];
+      ending = By_gates;
       counter = 0;
       memory = m;
       event = 0;
@@ -111,8 +113,10 @@ window c Replies m =
       queue = 2 * c + 1;
       row = ring_row c;
       from = 3;
+      first_gate = None;
       bodies = encoded (reply c) ∷ [];
       gates = [];
+      ending = Last;
       counter = 1;
       memory = m;
       event = 0;
@@ -197,9 +201,10 @@ stores_placed c m h =
       private_is = λ p. refl;
       numbered = omega arith;
       room = omega arith;
+      first = λ copy e. absurd (cc);
       flying = below_one _ (flies c l);
       last = λ k e. let at : k ≡ 0 = omega arith in subst (λ (v : ℕ). (request_of (window c Stores m) v).flags % 2 ≡ 1) (sym at) (flags c l);
-      gates = inr (stores_gated c m l);
+      gates = stores_gated c m l;
       slots_stand = λ k i. ap (λ (at : ℕ). bytes_at m at 64) (stores_slot c m k i) ∙ h.stand k (omega arith) ∙ below_three (λ v. encoded (slot c v) ≡ copy_of (window c Stores m) v) refl refl refl k i;
       slots_inside = λ k i. ap (λ (at : ℕ). all_inside (range at 64) (private c)) (stores_slot c m k i) ∙ slot_inside k (omega arith) c l;
       slots_apart = λ k j i one. below_one (λ v. all_apart (range (slot_at (window c Stores m) k) 64) (writes_of (window c Stores m) (private c) v) ≡ true) (ap (λ (at : ℕ). all_apart (range at 64) (writes_of (window c Stores m) (private c) 0)) (stores_slot c m k i) ∙ ap (all_apart (range (392 * c + 64 * k) 64)) (store_writes m c l) ∙ slot_below k (omega arith) c l) j one;
@@ -223,9 +228,10 @@ replies_placed c m h =
       private_is = λ p. refl;
       numbered = omega arith;
       room = omega arith;
+      first = λ copy e. absurd (cc);
       flying = below_one _ (flies c l);
       last = λ k e. let at : k ≡ 0 = omega arith in subst (λ (v : ℕ). (request_of (window c Replies m) v).flags % 2 ≡ 1) (sym at) (flags c l);
-      gates = inl refl;
+      gates = refl;
       slots_stand = λ k i. ap (λ (at : ℕ). bytes_at m at 64) (replies_slot c m k i) ∙ h.stand (k + 3) (omega arith) ∙ below_one (λ v. encoded (slot c (v + 3)) ≡ copy_of (window c Replies m) v) refl k i;
       slots_inside = λ k i. ap (λ (at : ℕ). all_inside (range at 64) (private c)) (replies_slot c m k i) ∙ slot_inside (k + 3) (omega arith) c l;
       slots_apart = λ k j i one. below_one (λ v. all_apart (range (slot_at (window c Replies m) k) 64) (writes_of (window c Replies m) (private c) v) ≡ true) (ap (all_apart (range (slot_at (window c Replies m) k) 64)) (reply_writes m c l)) j one;
@@ -301,7 +307,7 @@ module _ (c : ℕ) (l : c < 2) where
   orderly Stores m h = placed_is_orderly (window c Stores m) (private c) (stores_placed c m h)
   orderly Replies m h = placed_is_orderly (window c Replies m) (private c) (replies_placed c m h)
 
-  stores_end : (m : List ℕ) (h : Ready c m) (event : List Change) (t : List ℕ) → Standing (window c Stores m) t (λ k. true) event → Ready c t
+  stores_end : (m : List ℕ) (h : Ready c m) (event : List Change) (t : List ℕ) → Standing (window c Stores m) t all_written event → Ready c t
   unfolding window
   stores_end m h event t last =
       ready_same m t h last.size (λ p own. byte_kept (window c Stores m) (orderly Stores m h) t event last p own (below_one (λ j. within (writes_of (window c Stores m) (private c) j) p ≡ false) (ap (λ (places : List Place). within places p) (store_writes m c l) ∙ not_table p own)))
@@ -318,8 +324,8 @@ module _ (c : ℕ) (l : c < 2) where
       let opens : enable_of (window c Stores m) ≡ enable c 4 = decoded-encoded (enable c 4) (narrow_enable c l) in
       record {
         ready = stores_end m o.ready event t o.standing;
-        queue = sym (ap (λ (r : Request). r.first) opens);
-        limit = ap (λ (r : Request). r.second) opens ∙ (rw own refl);
+        queue = λ by. sym (ap (λ (r : Request). r.first) opens);
+        limit = λ by. ap (λ (r : Request). r.second) opens ∙ (rw own refl);
         regions = refl;
         own_at = rw own refl;
         own_counted = rw own (signal c l);
@@ -329,7 +335,7 @@ module _ (c : ℕ) (l : c < 2) where
     where
       signal : (d : ℕ) → d < 2 → 1 ≡ 0 + (0 + (decoded (encoded (store d))).flags % 2)
       signal = store_signals
-  behind Replies m event t o = let two = o.gated.two in absurd (omega arith)
+  behind Replies m event t o = absurd (o.goes_on refl)
 
   unfoldable pub script : IsScript (plan c)
   unfolding window place_at counted_at next is_ring ring_row
@@ -366,9 +372,9 @@ module _ (c : ℕ) (l : c < 2) where
       counter_at Stores m = rw own refl
       counter_at Replies m = rw own refl
 
-      target_at : (x : Turn) (m : List ℕ) → Ready c m → length (window c x m).gates ≡ 2 → is_ring c (enable_of (window c x m)).first ≡ true
-      target_at Stores m h two = ap (λ (r : Request). is_ring c r.first) (decoded-encoded (enable c 4) (narrow_enable c l)) ∙ own
-      target_at Replies m h two = absurd (omega arith)
+      target_at : (x : Turn) (m : List ℕ) → Ready c m → (window c x m).ending ≡ By_gates → is_ring c (enable_of (window c x m)).first ≡ true
+      target_at Stores m h by = ap (λ (r : Request). is_ring c r.first) (decoded-encoded (enable c 4) (narrow_enable c l)) ∙ own
+      target_at Replies m h by = absurd (cc)
 
       managed_at : (x : Turn) (m : List ℕ) (q : ℕ) → is_ring c q ≡ true → row_may_raise (window c x m).row.domain (Some (ring_row c)) ≡ true
       managed_at Stores m q r = eq-eqb c c refl

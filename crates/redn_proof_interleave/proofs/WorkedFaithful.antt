@@ -38,7 +38,7 @@ abbrev pub replies : ℕ → Kernel
 replies c = Reply (Num (7 + c) ∷ [])
 
 abbrev pub says : ℕ → ChainInit
-says c = record { args = 0; vars = []; body = stores c ∷ replies c ∷ [] }
+says c = record { serve = 1; args = 0; vars = []; body = stores c ∷ replies c ∷ [] }
 
 unfoldable pub two_program : Program
 two_program = record { tables = record { bytes = replicate 8 0; writable = true } ∷ []; chains = says 0 ∷ says 1 ∷ [] }

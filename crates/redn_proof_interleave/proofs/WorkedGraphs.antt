@@ -5,6 +5,7 @@ use Rattle.std.proofs.lemmas.Bool.{true≢false}
 use Rattle.std.proofs.lemmas.Bool.Decides.{nat_tests}
 use Rattle.std.proofs.lemmas.Option.{same_Some}
 use Rattle.redn_words.specs.declared.types.Obs.TheVariants as shows
+use Rattle.redn_kernel.specs.Costs.{step_worth}
 use Rattle.redn_kernel.specs.declared.types.Cell.TheVariants as cell
 use Rattle.redn_kernel.specs.declared.types.ChainInit.{ChainInit}
 use Rattle.redn_kernel.specs.declared.types.Kernel.{Kernel}
@@ -16,12 +17,12 @@ use Rattle.redn_graph.specs.declared.types.Instr.TheVariants.{Store}
 use Rattle.redn_graph.specs.declared.types.End.TheVariants.{Reply}
 use Rattle.redn_graph.specs.declared.types.Graph.{Graph}
 use Rattle.redn_kernel.specs.CoreRun.{Cells}
-use Rattle.redn_graph.specs.Run.{GraphState, GraphTurn, graph_step, step_cost, instr_does, end_does, instr_cost, end_cost}
+use Rattle.redn_graph.specs.Run.{Mail, GraphState, in_hand, GraphTurn, graph_step, step_cost, instr_does, end_does, instr_cost, end_cost}
 use Rattle.redn_kernel.specs.Steps.{Steps, silently}
 use Rattle.redn_graph.specs.Follows.{IsMatched, Follows, turn_by}
 use Rattle.redn_image.specs.Faithful.{AreMessages, Faithful}
 use Rattle.redn_proof_interleave.specs.Machines.{Contents}
-use Rattle.redn_proof_interleave.specs.GraphMachines.{RunsGraph, words_in}
+use Rattle.redn_proof_interleave.specs.GraphMachines.{RunsGraph, mail_in}
 use Rattle.redn_proof_interleave.specs.RingSides.{AllFollow, Graphed, RingSide, message_at}
 use Rattle.redn_proof_interleave.specs.FaithfulToGraphs.{FaithfulToGraphs, costs_from, graphs_begin, woken}
 use Rattle.redn_proof_interleave.proofs.GraphHeadline.{graphs_are_faithful}
@@ -39,8 +40,8 @@ items_at c zero zero = Do (stores c) ∷ Do (replies c) ∷ []
 items_at c zero (suc k) = Do (replies c) ∷ []
 items_at c (suc l) k = []
 
-abbrev here : ℕ → List ℕ → GraphState → ChainState
-here c words x = record { vars = x.cells.vars; message = Some words; items = items_at c x.block x.place; ended = x.ended }
+abbrev here : ℕ → Mail → GraphState → ChainState
+here c mail x = record { vars = x.cells.vars; message = Some (in_hand mail x); items = items_at c x.block x.place; ended = x.ended }
 
 -- one step of the source
 one_step : (c : ℕ) (t : Contents) (w : ChainState) (turn : SourceTurn) → chain_runs w ≡ true → first_does c t w w.items ≡ turn → Steps c t w 1 turn
@@ -67,25 +68,26 @@ module _ (d c : ℕ) (t : Contents) (w : ChainState) where
 abbrev at : ℕ → ℕ → Bool → Cells → Bool → GraphState
 at block place taking cells ended = record { block = block; place = place; taking = taking; cells = cells; ended = ended }
 
-module _ (d c : ℕ) (words : List ℕ) (t : Contents) where
-  unfolds_store : (taking : Bool) (cells : Cells) → has_word t 0 0 ≡ true → graph_step c words t (at 0 0 taking cells false) (graph_of d) ≡ record { tables = with_word_in t 0 0 (7 + d); state = at 0 1 false cells false; event = shows.Store c 0 0 (7 + d) }
+module _ (d c : ℕ) (mail : Mail) (t : Contents) where
+  unfolds_store : (taking : Bool) (cells : Cells) → has_word t 0 0 ≡ true →
+      graph_step c mail t (at 0 0 taking cells false) (graph_of d) ≡ record { tables = with_word_in t 0 0 (7 + d); state = at 0 1 false cells false; event = shows.Store c 0 0 (7 + d) }
   unfolding graph_step instr_does
   unfolds_store taking cells e = rw e refl
 
-  unfolds_fault : (taking : Bool) (cells : Cells) → has_word t 0 0 ≡ false → graph_step c words t (at 0 0 taking cells false) (graph_of d) ≡ record { tables = t; state = at 0 0 taking cells true; event = shows.Fault c 0 0 }
+  unfolds_fault : (taking : Bool) (cells : Cells) → has_word t 0 0 ≡ false → graph_step c mail t (at 0 0 taking cells false) (graph_of d) ≡ record { tables = t; state = at 0 0 taking cells true; event = shows.Fault c 0 0 }
   unfolding graph_step instr_does
   unfolds_fault taking cells e = rw e refl
 
-  unfolds_reply : (k : ℕ) (taking : Bool) (cells : Cells) → graph_step c words t (at 0 (suc k) taking cells false) (graph_of d) ≡ record { tables = t; state = at 0 (suc k) taking cells true; event = shows.Reply c 1 (eight ((7 + d) ∷ [])) }
+  unfolds_reply : (k : ℕ) (taking : Bool) (cells : Cells) → graph_step c mail t (at 0 (suc k) taking cells false) (graph_of d) ≡ record { tables = t; state = at 0 (suc k) taking cells true; event = shows.Reply c 1 (eight ((7 + d) ∷ [])) }
   unfolding graph_step end_does
   unfolds_reply k false cells = refl
   unfolds_reply k true cells = refl
 
-  unfolds_far : (l place : ℕ) (taking : Bool) (cells : Cells) → graph_step c words t (at (suc l) place taking cells false) (graph_of d) ≡ record { tables = t; state = at (suc l) place taking cells false; event = shows.Nothing }
+  unfolds_far : (l place : ℕ) (taking : Bool) (cells : Cells) → graph_step c mail t (at (suc l) place taking cells false) (graph_of d) ≡ record { tables = t; state = at (suc l) place taking cells false; event = shows.Nothing }
   unfolding graph_step
   unfolds_far l place taking cells = refl
 
-  unfolds_ended : (block place : ℕ) (taking : Bool) (cells : Cells) → graph_step c words t (at block place taking cells true) (graph_of d) ≡ record { tables = t; state = at block place taking cells true; event = shows.Nothing }
+  unfolds_ended : (block place : ℕ) (taking : Bool) (cells : Cells) → graph_step c mail t (at block place taking cells true) (graph_of d) ≡ record { tables = t; state = at block place taking cells true; event = shows.Nothing }
   unfolding graph_step
   unfolds_ended block place taking cells = refl
 
@@ -105,11 +107,12 @@ module _ (d c : ℕ) (words : List ℕ) (t : Contents) where
   unfolding step_cost
   ended_cost block place taking cells = refl
 
-  matched_by : (x : GraphState) (n : ℕ) (turn : GraphTurn) → graph_step c words t x (graph_of d) ≡ turn → Steps c t (here d words x) n (turn_by (here d words) turn) → step_cost (graph_of d) x ≤ 48 → step_cost (graph_of d) x ≤ 160 * n → IsMatched c words (graph_of d) (here d words) (λ x. 48) t x
+  matched_by : (x : GraphState) (n : ℕ) (turn : GraphTurn) → graph_step c mail t x (graph_of d) ≡ turn → Steps c t (here d mail x) n (turn_by (here d mail) turn) → step_cost (graph_of d) x ≤ 48 → step_cost (graph_of d) x ≤ step_worth * n →
+      IsMatched c mail (graph_of d) (here d mail) (λ x. 48) t x
   matched_by x n turn is steps within paid =
-      record { count = n; steps = subst (λ (r : GraphTurn). Steps c t (here d words x) n (turn_by (here d words) r)) (sym is) steps; within = within; paid = omega (arith, paid) }
+      record { count = n; steps = subst (λ (r : GraphTurn). Steps c t (here d mail x) n (turn_by (here d mail) r)) (sym is) steps; within = within; paid = omega (arith, paid) }
 
-  matched : (block place : ℕ) (taking : Bool) (cells : Cells) (ended : Bool) → IsMatched c words (graph_of d) (here d words) (λ x. 48) t (at block place taking cells ended)
+  matched : (block place : ℕ) (taking : Bool) (cells : Cells) (ended : Bool) → IsMatched c mail (graph_of d) (here d mail) (λ x. 48) t (at block place taking cells ended)
   unfolding items_at
   matched block place taking cells true =
       let none = ended_cost block place taking cells in
@@ -119,16 +122,17 @@ module _ (d c : ℕ) (words : List ℕ) (t : Contents) where
       matched_by (at (suc l) place taking cells false) 0 _ (unfolds_far l place taking cells) refl (omega (arith, none)) (omega (arith, none))
   matched zero zero taking cells false = by_room (has_word t 0 0) refl
     where
-      by_room : (b : Bool) → has_word t 0 0 ≡ b → IsMatched c words (graph_of d) (here d words) (λ x. 48) t (at 0 0 taking cells false)
+      by_room : (b : Bool) → has_word t 0 0 ≡ b → IsMatched c mail (graph_of d) (here d mail) (λ x. 48) t (at 0 0 taking cells false)
       by_room true e =
           let most = step_costs 0 0 taking cells false in
-          matched_by (at 0 0 taking cells false) 1 _ (unfolds_store taking cells e) (one_step c t (here d words (at 0 0 taking cells false)) _ refl (stores_there d c t (here d words (at 0 0 taking cells false)) e)) most (omega (arith, most))
+          matched_by (at 0 0 taking cells false) 1 _ (unfolds_store taking cells e) (one_step c t (here d mail (at 0 0 taking cells false)) _ refl (stores_there d c t (here d mail (at 0 0 taking cells false)) e)) most (omega (arith, most))
       by_room false e =
           let most = step_costs 0 0 taking cells false in
-          matched_by (at 0 0 taking cells false) 1 _ (unfolds_fault taking cells e) (one_step c t (here d words (at 0 0 taking cells false)) _ refl (faults_there d c t (here d words (at 0 0 taking cells false)) e)) most (omega (arith, most))
+          matched_by (at 0 0 taking cells false) 1 _ (unfolds_fault taking cells e) (one_step c t (here d mail (at 0 0 taking cells false)) _ refl (faults_there d c t (here d mail (at 0 0 taking cells false)) e)) most (omega (arith, most))
   matched zero (suc k) taking cells false =
       let most = step_costs 0 (suc k) taking cells false in
-      matched_by (at 0 (suc k) taking cells false) 1 _ (unfolds_reply k taking cells) (one_step c t (here d words (at 0 (suc k) taking cells false)) _ refl (reply_is d c t (here d words (at 0 (suc k) taking cells false)))) most (omega (arith, most))
+      matched_by (at 0 (suc k) taking cells false) 1 _ (unfolds_reply k taking cells) (one_step c t (here d mail (at 0 (suc k) taking cells false)) _ refl (reply_is d c t (here d mail (at 0 (suc k) taking cells false)))) most
+      (omega (arith, most))
 
 follows : (d : ℕ) → Follows (says d) (graph_of d)
 unfolding items_at
@@ -136,11 +140,11 @@ follows d =
     record {
       here = here d;
       worth = λ x. 48;
-      vars = λ words x. refl;
-      ended = λ words x. refl;
-      starts = λ c words t. (0, refl);
-      affords = omega arith;
-      matched = λ c words t x. matched d c words t x.block x.place x.taking x.cells x.ended;
+      vars = λ mail x. refl;
+      ended = λ mail x. refl;
+      starts = λ c mail t. (0, refl);
+      entry = omega arith;
+      matched = λ c mail t x. matched d c mail t x.block x.place x.taking x.cells x.ended;
     }
 
 -- the machine of the two chains runs as the graphs do
@@ -153,18 +157,20 @@ as_graph (suc zero) = at 0 1 false no_cells false
 as_graph (suc (suc zero)) = at 0 1 false no_cells true
 as_graph (suc (suc (suc x))) = at 0 0 false no_cells true
 
-module _ (c : ℕ) (words : List ℕ) where
+module _ (c : ℕ) (mail : Mail) where
   abbrev Alike : ℕ → Contents → Type 0
-  Alike x t = ((step c t x).tables ≡ (graph_step c words t (as_graph x) (graph_of c)).tables) × ((as_graph (step c t x).state ≡ (graph_step c words t (as_graph x) (graph_of c)).state) × ((step c t x).event ≡ (graph_step c words t (as_graph x) (graph_of c)).event))
+  Alike x t =
+      ((step c t x).tables ≡ (graph_step c mail t (as_graph x) (graph_of c)).tables)
+      × ((as_graph (step c t x).state ≡ (graph_step c mail t (as_graph x) (graph_of c)).state) × ((step c t x).event ≡ (graph_step c mail t (as_graph x) (graph_of c)).event))
 
   alike : (x : ℕ) (t : Contents) → nat_le 2 x ≡ false → Alike x t
   unfolding step as_graph
   alike zero t more = by_room (has_word t 0 0) refl
     where
       by_room : (b : Bool) → has_word t 0 0 ≡ b → Alike 0 t
-      by_room true e = let is = unfolds_store c c words t false no_cells e in rw (e, is) (refl, (refl, refl))
-      by_room false e = let is = unfolds_fault c c words t false no_cells e in rw (e, is) (refl, (refl, refl))
-  alike (suc zero) t more = let is = unfolds_reply c c words t 0 false no_cells in rw is (refl, (refl, refl))
+      by_room true e = let is = unfolds_store c c mail t false no_cells e in rw (e, is) (refl, (refl, refl))
+      by_room false e = let is = unfolds_fault c c mail t false no_cells e in rw (e, is) (refl, (refl, refl))
+  alike (suc zero) t more = let is = unfolds_reply c c mail t 0 false no_cells in rw is (refl, (refl, refl))
   alike (suc (suc x)) t more = absurd (let over : nat_le 2 (suc (suc x)) ≡ true = grind (arith, nat_tests) in true≢false (sym over ∙ more))
 
   ends_alike : (x : ℕ) → nat_le 2 x ≡ (as_graph x).ended
@@ -180,7 +186,7 @@ module _ (c : ℕ) (words : List ℕ) where
   costs_less (suc zero) = omega arith
   costs_less (suc (suc x)) = omega arith
 
-  runs_graph : RunsGraph ℕ (both c) 0 as_graph c words (graph_of c) []
+  runs_graph : RunsGraph ℕ (both c) 0 as_graph c mail (graph_of c) []
   unfolding as_graph
   runs_graph =
       record {
@@ -203,12 +209,14 @@ abbrev graphed : Messages → Graphed
 graphed messages = record { world = world messages; as_graph = λ c. as_graph }
 
 abbrev AtGraph : Messages → ℕ → ChainInit → Graph → Type 0
-AtGraph messages c chain g = RunsGraph ℕ ((world messages).form c).machine ((world messages).form c).begin as_graph c (words_in chain (message_at messages c)) g chain.vars
+AtGraph messages c chain g = RunsGraph ℕ ((world messages).form c).machine ((world messages).form c).begin as_graph c (mail_in chain (message_at messages c)) g chain.vars
 
 runs_there : (messages : Messages) (c : ℕ) (chain : ChainInit) (g : Graph) → slice_get two_program.chains c ≡ Some chain → slice_get graphs c ≡ Some g → AtGraph messages c chain g
 unfolding two_program
-runs_there messages zero chain g e h = subst (λ (k : ChainInit). AtGraph messages 0 k g) (same_Some (says 0) chain e) (subst (AtGraph messages 0 (says 0)) (same_Some (graph_of 0) g h) (runs_graph 0 (words_in (says 0) (message_at messages 0))))
-runs_there messages (suc zero) chain g e h = subst (λ (k : ChainInit). AtGraph messages 1 k g) (same_Some (says 1) chain e) (subst (AtGraph messages 1 (says 1)) (same_Some (graph_of 1) g h) (runs_graph 1 (words_in (says 1) (message_at messages 1))))
+runs_there messages zero chain g e h =
+    subst (λ (k : ChainInit). AtGraph messages 0 k g) (same_Some (says 0) chain e) (subst (AtGraph messages 0 (says 0)) (same_Some (graph_of 0) g h) (runs_graph 0 (mail_in (says 0) (message_at messages 0))))
+runs_there messages (suc zero) chain g e h =
+    subst (λ (k : ChainInit). AtGraph messages 1 k g) (same_Some (says 1) chain e) (subst (AtGraph messages 1 (says 1)) (same_Some (graph_of 1) g h) (runs_graph 1 (mail_in (says 1) (message_at messages 1))))
 runs_there messages (suc (suc c)) chain g e h = absurd (cc)
 
 no_variables : (x : ℕ) → (as_graph x).cells.vars ≡ []

@@ -23,8 +23,8 @@ use Rattle.redn_words.specs.Laws.{row_at}
 use Rattle.redn_words.proofs.Slots.{decoded-encoded}
 use Rattle.redn_words.specs.Slots.{IsNarrow}
 use Rattle.redn_words.proofs.Copies.{get_empty}
-use Rattle.redn_proof_window.specs.Windows.{landing_on, bodies_of, slots_of}
-use Rattle.redn_proof_window.specs.Stages.{Agrees, Gated}
+use Rattle.redn_proof_window.specs.Windows.{Last, Followed, landing_on, bodies_of, slots_of}
+use Rattle.redn_proof_window.specs.Stages.{Agrees, all_written}
 use Rattle.redn_proof_window.specs.Gateways.{Gateway, GateQueue, gate_of, gate_copy}
 use Rattle.redn_proof_window.specs.Scripts.{IsBytes, Wrote, RestsAt}
 use Rattle.redn_proof_window.proofs.Sound.{spelled_bytes, encoded_bytes, joined_bytes, zero_bytes}
@@ -369,16 +369,27 @@ module _ (messages : Messages) (short : (c : ℕ) (bytes : List ℕ) → c < 2 �
     fails : (x : Turn) (m n : List ℕ) (t : Contents) → (landing_on (window c x m) n (window c x m).event).allowed ≡ false → Fails (world messages) c x m n t
     fails x m n t refused = absurd (true≢false (sym (allowed x m n) ∙ refused))
 
-    moves_on : (x : Turn) (m : List ℕ) (event : List Change) (n : List ℕ) (told : Option (List Change)) (t : Contents) → Gated (window c x m) → IsTold (window c x m) (λ k. true) event told → Goes ℕ (both c) t (state_at x told) [] t (state_at (next x event) None) (whole (window c (next x event) n) + owed_at (next x event) None) (owed_at x told)
+    moves_on : (x : Turn) (m : List ℕ) (event : List Change) (n : List ℕ) (told : Option (List Change)) (t : Contents) → (window c x m).ending ≢ Last → IsTold (window c x m) all_written event told
+        → Goes ℕ (both c) t (state_at x told) [] t (state_at (next x event) None) (whole (window c (next x event) n) + owed_at (next x event) None) (owed_at x told)
     unfolding window next state_at owed_at step cost
-    moves_on Stores m event n None t gated told = absurd (true≢false (told (omega arith)))
-    moves_on Stores m event n (Some e) t gated told = record { steps = 0; go = tt; telling = refl; tables = refl; state = refl; enough = omega arith }
-    moves_on Replies m event n told t gated is = let two = gated.two in absurd (omega arith)
+    moves_on Stores m event n None t on told = absurd (true≢false (told (omega arith) 0))
+    moves_on Stores m event n (Some e) t on told = record { steps = 0; go = tt; telling = refl; tables = refl; state = refl; enough = omega arith }
+    moves_on Replies m event n told t on is = absurd (on refl)
 
-    ends : (x : Turn) (m : List ℕ) → length (window c x m).gates ≡ 0 → ((window c x m).event < bodies_of (window c x m)) × ((event : List Change) → Wrote (window c x m) event → nat_le 2 (state_at x (Some event)) ≡ true)
+    ends : (x : Turn) (m : List ℕ) → (window c x m).ending ≡ Last → ((window c x m).event < bodies_of (window c x m)) × ((event : List Change) → Wrote (window c x m) event → nat_le 2 (state_at x (Some event)) ≡ true)
     unfolding window state_at
-    ends Stores m none = absurd (omega arith)
-    ends Replies m none = (omega arith, λ event wrote. refl)
+    ends Stores m last = absurd (cc)
+    ends Replies m last = (omega arith, λ event wrote. refl)
+
+    unfollowed : (x : Turn) (m : List ℕ) → (window c x m).ending ≢ Followed
+    unfolding window
+    unfollowed Stores m = λ e. absurd (cc)
+    unfollowed Replies m = λ e. absurd (cc)
+
+    no_first_gate : (x : Turn) (m : List ℕ) → (window c x m).first_gate ≡ None
+    unfolding window
+    no_first_gate Stores m = refl
+    no_first_gate Replies m = refl
 
     rings_begin : (q : ℕ) → is_ring c q ≡ true → RestsAt (plan c) (first_state messages) Stores q
     unfolding is_ring place_at counted_at ring_row
@@ -425,6 +436,8 @@ module _ (messages : Messages) (short : (c : ℕ) (bytes : List ℕ) → c < 2 �
     promises =
         record {
           script = script c l;
+          no_first_gate = no_first_gate;
+          unfollowed = λ x m ready. unfollowed x m;
           most = omega arith;
           domain = domains;
           ours = own_bytes;
@@ -440,8 +453,8 @@ module _ (messages : Messages) (short : (c : ℕ) (bytes : List ℕ) → c < 2 �
           begins = λ m t ready. first_step m t;
           tells = λ x m n t found may. tells x m n t found.ready found.agrees found.tables;
           fails = λ x m n t found refused. fails x m n t refused;
-          moves_on = λ x m event n told t over is. moves_on x m event n told t over.gated is;
-          ends = λ x m ready none. ends x m none;
+          moves_on = λ x m event n told t over is. moves_on x m event n told t over.goes_on is;
+          ends = λ x m ready last. ends x m last;
           holds = λ x m n marks event told ready wrote is last. tt;
           holds_failed = λ x n h. tt;
           holds_begin = λ came. tt;

@@ -7,6 +7,7 @@ use Rattle.redn_words.specs.declared.types.Region.{Region}
 use Rattle.redn_words.specs.States.{State}
 use Rattle.redn_words.specs.Runs.{AllPossible, reached, all_shown, useful_for}
 use Rattle.redn_words.specs.Words.{bytes_at}
+use Rattle.redn_kernel.specs.Costs.{entry_cost}
 use Rattle.redn_kernel.specs.declared.types.ChainInit.{ChainInit}
 use Rattle.redn_kernel.specs.declared.types.Program.{Program}
 use Rattle.redn_kernel.specs.Source.{bytes_of}
@@ -18,12 +19,12 @@ use Rattle.redn_image.specs.Faithful.{AreMessages, CanGoOn, IsClean, start_of}
 use Rattle.redn_image.proofs.Simulation.{AllRun, told}
 use Rattle.redn_proof_interleave.specs.Machines.{Machine, Many, many_running, many_step, many_tells, many_credit, many_after}
 use Rattle.redn_proof_interleave.specs.Compiled.{Messages}
-use Rattle.redn_proof_interleave.specs.GraphMachines.{graph_machine, words_in}
+use Rattle.redn_proof_interleave.specs.GraphMachines.{graph_machine, mail_in}
 use Rattle.redn_proof_interleave.specs.RingSides.{first_tables, message_at}
 
 -- what stands where there is no chain
 abbrev pub no_init : ChainInit
-no_init = record { args = 0; vars = []; body = [] }
+no_init = record { serve = 1; args = 0; vars = []; body = [] }
 
 abbrev pub no_blocks : Graph
 no_blocks = record { hidden = 0; entry = 0; blocks = [] }
@@ -35,9 +36,9 @@ module _ (p : Program) (gs : List Graph) (messages : Messages) where
   abbrev pub graph_at : ℕ → Graph
   graph_at c = get_or gs c no_blocks
 
-  -- a chain's blocks, with the words of its message
+  -- a chain's blocks, with its mail
   abbrev pub blocks_of : ℕ → Machine GraphState
-  blocks_of c = graph_machine c (words_in (init_at c) (message_at messages c)) (graph_at c)
+  blocks_of c = graph_machine c (mail_in (init_at c) (message_at messages c)) (graph_at c)
 
   -- they run only where there is a message
   abbrev pub woken : ℕ → Bool
@@ -52,11 +53,15 @@ module _ (p : Program) (gs : List Graph) (messages : Messages) where
   graphs_after turns = many_after GraphState blocks_of woken graphs_begin turns
 
   abbrev pub GraphsRun : List ℕ → Type 0
-  GraphsRun turns = AllRun (Many GraphState) (many_running GraphState blocks_of woken) (many_step GraphState blocks_of woken) (many_tells GraphState blocks_of woken) (many_credit GraphState blocks_of woken) graphs_begin turns
+  GraphsRun turns =
+      AllRun (Many GraphState) (many_running GraphState blocks_of woken) (many_step GraphState blocks_of woken) (many_tells GraphState blocks_of woken)
+      (many_credit GraphState blocks_of woken) graphs_begin turns
 
   -- what they show
   abbrev pub graphs_tell : List ℕ → List Obs
-  graphs_tell turns = told (Many GraphState) (many_running GraphState blocks_of woken) (many_step GraphState blocks_of woken) (many_tells GraphState blocks_of woken) (many_credit GraphState blocks_of woken) graphs_begin turns
+  graphs_tell turns =
+      told (Many GraphState) (many_running GraphState blocks_of woken) (many_step GraphState blocks_of woken) (many_tells GraphState blocks_of woken)
+      (many_credit GraphState blocks_of woken) graphs_begin turns
 
   -- the costs of a chain's steps, up to and with the one in hand
   abbrev pub costs_from : ℕ → Many GraphState → List ℕ → ℕ
@@ -67,10 +72,12 @@ module _ (p : Program) (gs : List Graph) (messages : Messages) where
   pub record ExplainsGraphs (first : State) (acts : List Action) (turns : List ℕ) : Type 0 where
     pub runs : GraphsRun turns
     pub shows_events : all_shown first acts ≡ graphs_tell turns
-    pub tables : (n : ℕ) → All (λ (r : Region). bytes_at (reached first acts).memory r.base r.len ≡ bytes_of (graphs_after turns).tables n) (places_of n first.regions)
-    pub variables : (c : ℕ) → c < length p.chains → All (HoldsVariables (reached first acts).memory ((graphs_after turns).at c).cells.vars) (variables_of c first.regions)
+    pub tables : (n : ℕ) →
+        All (λ (r : Region). bytes_at (reached first acts).memory r.base r.len ≡ bytes_of (graphs_after turns).tables n) (places_of n first.regions)
+    pub variables : (c : ℕ) → c < length p.chains →
+        All (HoldsVariables (reached first acts).memory ((graphs_after turns).at c).cells.vars) (variables_of c first.regions)
     pub clean : All IsClean (all_shown first acts)
-    pub few : (c : ℕ) → c < length p.chains → useful_for c first acts ≤ 5 + costs_from c graphs_begin turns
+    pub few : (c : ℕ) → c < length p.chains → useful_for c first acts ≤ entry_cost + costs_from c graphs_begin turns
     pub none : (c : ℕ) → length p.chains ≤ c → useful_for c first acts ≡ 0
     pub goes_on : (c : ℕ) → many_running GraphState blocks_of woken (graphs_after turns) c ≡ true → CanGoOn (reached first acts) c
 

@@ -14,8 +14,8 @@ use Rattle.redn_words.specs.Landings.{Landing, Change, change, changed}
 use Rattle.redn_words.specs.Ranges.{domain_holds}
 use Rattle.redn_words.specs.Laws.{row_at}
 use Rattle.redn_words.specs.Bytes.{byte, hits}
-use Rattle.redn_proof_window.specs.Windows.{Opening, bodies_of, slots_of, landing_on}
-use Rattle.redn_proof_window.specs.Stages.{Agrees, Standing}
+use Rattle.redn_proof_window.specs.Windows.{Last, Followed, Opening, bodies_of, slots_of, gate_count, landing_on}
+use Rattle.redn_proof_window.specs.Stages.{Agrees, Standing, all_written}
 use Rattle.redn_proof_window.specs.Gateways.{Gateway, OrderlyGates, GateQueue, gate_copy, gate_of}
 use Rattle.redn_proof_window.specs.Scripts.{IsBytes, Script, Wrote, IsOver, IsScript, RestsAt}
 use Rattle.redn_image.specs.Faithful.{IsClean}
@@ -58,12 +58,12 @@ with_message memory _ _ = memory
 
 -- useful actions of a window, at most
 abbrev pub whole : Opening → ℕ
-whole w = 4 * bodies_of w + 2 * length w.gates
+whole w = 4 * bodies_of w + 2 * gate_count w
 
--- what of the event has landed
-abbrev pub IsTold : Opening → (ℕ → Bool) → List Change → Option (List Change) → Type 0
-IsTold w marks event None = w.event < bodies_of w → marks w.event ≡ false
-IsTold w marks event (Some e) = (w.event < bodies_of w) × (marks w.event ≡ true) × (e ≡ event)
+-- what of the event is told: nothing before its body has written, and what it wrote once it has written all
+abbrev pub IsTold : Opening → (ℕ → ℕ → Bool) → List Change → Option (List Change) → Type 0
+IsTold w written event None = w.event < bodies_of w → (p : ℕ) → written w.event p ≡ false
+IsTold w written event (Some e) = (w.event < bodies_of w) × ((p : ℕ) → written w.event p ≡ true) × (e ≡ event)
 
 module _ (g : World) where
   abbrev pub chains_of : ℕ
@@ -152,7 +152,8 @@ module _ (g : World) where
     pub record Tells (x : Point) (m n : List ℕ) (t : Contents) : Type 0 where
       pub then_tables : Contents
       pub has : g.Tables then_tables (changed n (event_on x m n).writes)
-      pub goes : MachineGoes t (f.state x None) (shown_then (event_on x m n).shown []) then_tables (f.state x (Some (event_on x m n).writes)) (f.owed x (Some (event_on x m n).writes)) (f.owed x None)
+      pub goes : MachineGoes t (f.state x None) (shown_then (event_on x m n).shown []) then_tables (f.state x (Some (event_on x m n).writes))
+          (f.owed x (Some (event_on x m n).writes)) (f.owed x None)
       pub clean : IsClean (event_on x m n).shown
 
     -- and where it is refused, too: they end the machine
@@ -162,8 +163,10 @@ module _ (g : World) where
       pub ended : f.machine.ended (f.failed x) ≡ true
 
     pub record Promises : Type 0 where
-      -- its windows, which write in its private bytes but for the event's body
+      -- its windows, which write in its private bytes but for the event's body. None has a first gate, and the last alone has no gates
       pub script : IsScript f.script
+      pub no_first_gate : (x : Point) (m : List ℕ) → (window x m).first_gate ≡ None
+      pub unfollowed : (x : Point) (m : List ℕ) → f.script.Ready x m → (window x m).ending ≢ Followed
       pub most : g.most ≤ f.script.most
       pub domain : (x : Point) (m : List ℕ) → (window x m).row.domain ≡ c
       pub ours : (x : Point) (m : List ℕ) (p : ℕ) → (window x m).ours p ≡ true → f.mine p ≡ true
@@ -183,14 +186,14 @@ module _ (g : World) where
       pub tells : (x : Point) (m n : List ℕ) (t : Contents) → Finds x m n t → (event_on x m n).allowed ≡ true → Tells x m n t
       pub fails : (x : Point) (m n : List ℕ) (t : Contents) → Finds x m n t → (event_on x m n).allowed ≡ false → Fails x m n t
       pub moves_on : (x : Point) (m : List ℕ) (event : List Change) (n : List ℕ) (told : Option (List Change)) (t : Contents)
-          → (over : IsOver f.script x m event n) → IsTold (window x m) (λ k. true) event told → KeepsUp x (script.behind x m event n over).0 n told t
-      pub ends : (x : Point) (m : List ℕ) → f.script.Ready x m → length (window x m).gates ≡ 0
+          → (over : IsOver f.script x m event n) → IsTold (window x m) all_written event told → KeepsUp x (script.behind x m event n over).0 n told t
+      pub ends : (x : Point) (m : List ℕ) → f.script.Ready x m → (window x m).ending ≡ Last
           → ((window x m).event < bodies_of (window x m))
           × ((event : List Change) → Wrote (window x m) event → f.machine.ended (f.state x (Some event)) ≡ true)
       -- its variables
-      pub holds : (x : Point) (m n : List ℕ) (marks : ℕ → Bool) (event : List Change) (told : Option (List Change)) → f.script.Ready x m
-          → (marks (window x m).event ≡ true → (window x m).event < bodies_of (window x m) → Wrote (window x m) event)
-          → IsTold (window x m) marks event told → Standing (window x m) n marks event → f.Holds (f.state x told) n
+      pub holds : (x : Point) (m n : List ℕ) (written : ℕ → ℕ → Bool) (event : List Change) (told : Option (List Change)) → f.script.Ready x m
+          → (((p : ℕ) → written (window x m).event p ≡ true) → (window x m).event < bodies_of (window x m) → Wrote (window x m) event)
+          → IsTold (window x m) written event told → Standing (window x m) n written event → f.Holds (f.state x told) n
       pub holds_failed : (x : Point) (n : List ℕ) → f.Holds (f.state x None) n → f.Holds (f.failed x) n
       pub holds_begin : (came : Bool) → f.Holds f.begin (expected came)
       pub holds_same : (y : g.M) (m n : List ℕ) → SameMine m n → f.Holds y n → f.Holds y m

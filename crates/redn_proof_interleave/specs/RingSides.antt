@@ -16,7 +16,7 @@ use Rattle.redn_image.specs.Faithful.{start_of}
 use Rattle.redn_proof_interleave.specs.Machines.{Contents}
 use Rattle.redn_proof_interleave.specs.Forms.{World, chains_of, AllPromise}
 use Rattle.redn_proof_interleave.specs.Compiled.{Messages}
-use Rattle.redn_proof_interleave.specs.GraphMachines.{Followed, RunsGraph, words_in}
+use Rattle.redn_proof_interleave.specs.GraphMachines.{Followed, RunsGraph, mail_in}
 
 -- each chain has a graph that follows it
 abbrev pub AllFollow : List ChainInit → List Graph → Type 0
@@ -52,7 +52,9 @@ pub record RingSide (p : Program) (i : Image) (gs : List Graph) (messages : Mess
   pub begin : graphed.world.begin ≡ start_of i messages
   pub most : graphed.world.most ≡ 2 ^ 62
   pub promises : AllPromise graphed.world
-  pub runs_graph : (c : ℕ) (chain : ChainInit) (g : Graph) → slice_get p.chains c ≡ Some chain → slice_get gs c ≡ Some g → RunsGraph graphed.world.M (graphed.world.form c).machine (graphed.world.form c).begin (graphed.as_graph c) c (words_in chain (message_at messages c)) g chain.vars
+  pub runs_graph : (c : ℕ) (chain : ChainInit) (g : Graph) → slice_get p.chains c ≡ Some chain → slice_get gs c ≡ Some g →
+      RunsGraph graphed.world.M (graphed.world.form c).machine (graphed.world.form c).begin (graphed.as_graph c) c
+      (mail_in chain (message_at messages c)) g chain.vars
   pub has_tables : graphed.world.Tables (first_tables p) graphed.world.begin.memory
   pub tables : (t : Contents) (m : List ℕ) (n : ℕ) → graphed.world.Tables t m
       → All (λ (r : Region). bytes_at m r.base r.len ≡ bytes_of t n) (places_of n graphed.world.begin.regions)

@@ -1,17 +1,18 @@
 -- What a machine has to do with its source chain.
 use Rattle.std.specs.Prelude.{◌≡◌, ℕ, ◌+◌, ◌<◌, ◌≤◌, true, false, not, ◌&&◌, [], Some, None, slice_get}
 use Rattle.redn_words.specs.Runs.{shown_then}
+use Rattle.redn_kernel.specs.Costs.{step_worth, entry_cost}
 use Rattle.redn_kernel.specs.Source.{ChainState, Source, first_does, chain_runs}
 use Rattle.redn_proof_interleave.specs.Machines.{Contents, Machine, Goes, Many}
 use Rattle.redn_proof_interleave.specs.Forms.{World, chains_of, awake, machine}
 
--- a source chain is a machine too, each of whose steps is worth 160
+-- a source chain is a machine too, all of whose steps are worth the same
 unfoldable pub source_machine : ℕ → Machine ChainState
 source_machine c =
     record {
       step = λ t w. record { tables = (first_does c t w w.items).tables; state = (first_does c t w w.items).chain; event = (first_does c t w w.items).event };
       ended = λ w. not (chain_runs w);
-      cost = λ w. 160;
+      cost = λ w. step_worth;
     }
 
 -- a world whose machines' states stand for source chains
@@ -36,10 +37,12 @@ module _ (sourced : Sourced) where
 
   -- the contract between a chain's machine and its source chain
   pub record Translates (c : ℕ) : Type 0 where
-    pub step : (x : g.M) (t : Contents) → Fine c x → awake g c ≡ true → (machine g c).ended x ≡ false → Goes ChainState (source_machine c) t (here c x) (shown_then ((machine g c).step t x).event []) ((machine g c).step t x).tables (here c ((machine g c).step t x).state) ((machine g c).cost ((machine g c).step t x).state + kept c ((machine g c).step t x).state) (kept c x)
+    pub step : (x : g.M) (t : Contents) → Fine c x → awake g c ≡ true → (machine g c).ended x ≡ false →
+        Goes ChainState (source_machine c) t (here c x) (shown_then ((machine g c).step t x).event []) ((machine g c).step t x).tables
+        (here c ((machine g c).step t x).state) ((machine g c).cost ((machine g c).step t x).state + kept c ((machine g c).step t x).state) (kept c x)
     pub fine : (x : g.M) (t : Contents) → Fine c x → (machine g c).ended x ≡ false → Fine c ((machine g c).step t x).state
     pub runs : (x : g.M) → Fine c x → awake g c ≡ true → chain_runs (here c x) ≡ not ((machine g c).ended x)
-    pub pays : 5 + ((machine g c).cost (g.form c).begin + kept c (g.form c).begin) ≤ 160
+    pub pays : entry_cost + ((machine g c).cost (g.form c).begin + kept c (g.form c).begin) ≤ step_worth
 
   -- a source chain that is at a machine's state, or some silent steps before it
   pub record Stand (c : ℕ) (w : ChainState) (x : g.M) : Type 0 where

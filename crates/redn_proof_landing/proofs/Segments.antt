@@ -20,7 +20,7 @@ use Rattle.redn_segment.specs.Footprints.{local_by, remote_by, both_sides, is_fr
 use Rattle.redn_segment.specs.Homes.{Home, base_of, room_of, LieApart}
 use Rattle.redn_segment.specs.Plain.{Put, Outcome, Went, acts, opcode_in}
 use Rattle.redn_segment.specs.Sites.{space_of, is_table, same_space}
-use Rattle.redn_proof_window.specs.Stages.{Orderly, Plain, Gated}
+use Rattle.redn_proof_window.specs.Stages.{IsEnding, Orderly, Plain}
 use Rattle.redn_proof_window.specs.Windows.{Opening, bodies_of, slots_of, copy_of, origin_of, planned, may_write, slot_at}
 use Rattle.redn_words.specs.Footprints.{footprint}
 use Rattle.redn_words.specs.Access.{EndsBy}
@@ -198,11 +198,12 @@ module _ (home : Space → Home) (mine : Space → Bool) (regions : List Region)
         side_ours : (d : Draft) (e : slice_get g.drafts k ≡ Some d) (a : Side) → IsSide d a → (p : ℕ) → (is_table d.local ≡ false) × (is_table d.remote ≡ false) → In home a p → ours p ≡ true
         side_ours d e a its p private x = ap ours x.is ∙ ours_are (space_of a.site) x.at (mine_of k d a e its) (sym (table_space a.site) ∙ side_plain d a its private) x.room
 
-    pub segment_orderly : ring < RECEIVE_BASE → ((k : ℕ) → k + 1 ≡ length g.drafts → (decoded (slot_bytes home ring g m k)).flags % 2 ≡ 1) → (length w.gates ≡ 0) ⊎ Gated w → EndsBy (length m) regions → Orderly w
+    pub segment_orderly : ring < RECEIVE_BASE → ((k : ℕ) → k + 1 ≡ length g.drafts → (decoded (slot_bytes home ring g m k)).flags % 2 ≡ 1) → IsEnding w g.ending → EndsBy (length m) regions → Orderly w
     segment_orderly numbered last gates ends =
         record {
           numbered = numbered;
           room = omega (arith, slots_are, room);
+          first = λ copy e. absurd (cc);
           flying = λ k l.
               let draft = draft_at k l in
               let flies_there : class_by (opcode_in (slot_bytes home ring g m k)) ≡ ask.Flies = good_flies row.domain (seen_in home m) (slot_bytes home ring g m k) draft.0 (opcode_in (slot_bytes home ring g m k)) (through.good k draft.0 draft.1) in

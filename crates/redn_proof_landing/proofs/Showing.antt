@@ -6,7 +6,7 @@ use Rattle.redn_segment.proofs.Pieces.{with_put_here, with_put_there}
 use Rattle.redn_segment.specs.Homes.{Home, base_of, room_of, LieApart}
 use Rattle.redn_segment.specs.Plain.{Put, with_put, placed}
 use Rattle.redn_segment.specs.Sites.{same_space}
-use Rattle.redn_proof_window.specs.Stages.{value, Standing, effect}
+use Rattle.redn_proof_window.specs.Stages.{value, Standing, all_written, effect}
 use Rattle.redn_proof_window.specs.Windows.{Opening, bodies_of}
 use Rattle.redn_words.proofs.Bytes.{byte-changed, length-changed, same_range}
 use Rattle.redn_words.specs.Bytes.{byte, over}
@@ -60,15 +60,17 @@ map_append f (u ∷ a) b = ap (λ (l : List Change). f u ∷ l) (map_append f a 
 
 module _ (home : Space → Home) (effects : ℕ → List Change) (each : ℕ → List Put) where
   -- the bodies in the order of their slots make the puts in that order
-  value_puts : (n p before : ℕ) → ((k : ℕ) → k < n → effects k ≡ map (change_of home) (each k)) → value (λ k. true) effects n p before ≡ over (map (change_of home) (puts_of_first each n)) p before
+  value_puts : (n p before : ℕ) → ((k : ℕ) → k < n → effects k ≡ map (change_of home) (each k)) → value all_written effects n p before ≡ over (map (change_of home) (puts_of_first each n)) p before
   value_puts zero p before h = refl
   value_puts (suc n) p before h =
-      let rest : value (λ k. true) effects n p before ≡ over (map (change_of home) (puts_of_first each n)) p before = value_puts n p before (λ k l. h k (omega arith)) in
+      let rest : value all_written effects n p before ≡ over (map (change_of home) (puts_of_first each n)) p before = value_puts n p before (λ k l. h k (omega arith)) in
       let last : effects n ≡ map (change_of home) (each n) = h n (omega arith) in
-      ap (λ (c : List Change). over c p (value (λ k. true) effects n p before)) last ∙ ap (over (map (change_of home) (each n)) p) rest ∙ sym (over_append (map (change_of home) (puts_of_first each n)) (map (change_of home) (each n)) p before) ∙ ap (λ (c : List Change). over c p before) (sym (map_append (change_of home) (puts_of_first each n) (each n)))
+      ap (λ (c : List Change). over c p (value all_written effects n p before)) last ∙ ap (over (map (change_of home) (each n)) p) rest
+      ∙ sym (over_append (map (change_of home) (puts_of_first each n)) (map (change_of home) (each n)) p before) ∙ ap (λ (c : List Change). over c p before) (sym (map_append (change_of home) (puts_of_first each n) (each n)))
 
 -- behind a window whose bodies make puts, memory shows each private space after them
-module _ (home : Space → Home) (mine : Space → Bool) (w : Opening) (n : List ℕ) (event : List Change) (last : Standing w n (λ k. true) event) (each : ℕ → List Put) (are : (k : ℕ) → k < bodies_of w → effect w event k ≡ map (change_of home) (each k)) (apart : LieApart home mine (length w.memory)) (fine : Inside home mine (puts_of_first each (bodies_of w))) where
+module _ (home : Space → Home) (mine : Space → Bool) (w : Opening) (n : List ℕ) (event : List Change) (last : Standing w n all_written event) (each : ℕ → List Put)
+    (are : (k : ℕ) → k < bodies_of w → effect w event k ≡ map (change_of home) (each k)) (apart : LieApart home mine (length w.memory)) (fine : Inside home mine (puts_of_first each (bodies_of w))) where
   pub window_shows : (p : Space) → mine p ≡ true → ((i : ℕ) → base_of home p ≤ i → i < base_of home p + room_of home p → w.ours i ≡ true) → seen_in home n p ≡ placed (seen_in home w.memory) (puts_of_first each (bodies_of w)) p
   window_shows p its private =
       let changes : List Change = map (change_of home) (puts_of_first each (bodies_of w)) in

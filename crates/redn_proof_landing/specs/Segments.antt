@@ -1,5 +1,5 @@
 -- Segments of rings that lie in memory, and their windows.
-use Rattle.std.specs.Prelude.{◌≡◌, ◌≢◌, ℕ, zero, suc, ◌+◌, ◌*◌, ◌<◌, Bool, true, false, List, [], ◌∷◌, length, slice_get, Some}
+use Rattle.std.specs.Prelude.{◌≡◌, ◌≢◌, ℕ, zero, suc, ◌+◌, ◌*◌, ◌<◌, Bool, true, false, List, [], ◌∷◌, length, slice_get, Some, None}
 use Rattle.std.specs.List.{list_all}
 use Rattle.redn_words.specs.declared.types.Region.{Region}
 use Rattle.redn_words.specs.declared.types.QueueRow.{QueueRow}
@@ -15,7 +15,7 @@ use Rattle.redn_segment.specs.Plain.{Put, Outcome, Went, Bad, acts, opcode_in, l
 use Rattle.redn_segment.specs.Footprints.{both_sides, ends_inside, all_free, spares}
 use Rattle.redn_segment.specs.Homes.{Home, IsHome, HasLocal, base_of}
 use Rattle.redn_segment.specs.Orders.{Follows, is_send}
-use Rattle.redn_proof_window.specs.Windows.{Opening}
+use Rattle.redn_proof_window.specs.Windows.{Ending, Opening}
 use Rattle.redn_proof_landing.specs.Homes.{HasTarget, Granted, seen_in}
 
 -- tables by their spaces
@@ -70,6 +70,7 @@ pub record Part : Type 0 where
   pub first : ℕ  -- its first slot
   pub drafts : List Draft  -- with its lap requests
   pub gates : ℕ  -- how many gates it has
+  pub ending : Ending
   pub event : ℕ  -- the place of the draft that may show an event
 
 -- the window that opens such a segment, in a lap
@@ -80,8 +81,10 @@ segment_window home regions ring row ours g lap counter m =
       queue = ring;
       row = row;
       from = lap * row.slots + g.first;
+      first_gate = None;
       bodies = copies home ring m g.first (length g.drafts);
       gates = copies home ring m (g.first + length g.drafts) g.gates;
+      ending = g.ending;
       counter = counter;
       memory = m;
       event = g.event;

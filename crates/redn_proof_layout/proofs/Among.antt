@@ -39,7 +39,7 @@ use Rattle.redn_proof_layout.proofs.Beside.{chains_lie_apart}
 use Rattle.redn_proof_layout.proofs.Queues.{stand, entered}
 use Rattle.redn_proof_interleave.specs.Forms.{World, IsEntry, MailPlace, SameMine, message, expected, with_message, chains_of}
 use Rattle.redn_proof_interleave.specs.Compiled.{Messages}
-use Rattle.redn_proof_interleave.specs.GraphMachines.{words_in}
+use Rattle.redn_proof_interleave.specs.GraphMachines.{mail_in}
 use Rattle.redn_proof_interleave.specs.RingSides.{message_at}
 use Rattle.redn_proof_chain.specs.Formed.{Formed, plan, its_meaning}
 use Rattle.redn_proof_chain.specs.Together.{Together, Begun, HasVars, first_point, world_of}
@@ -221,7 +221,7 @@ module _ (p : Program) (graphs : List Graph) (are : AreSound p graphs) (numbers 
     pub among : IsAmong T i
     among =
         record {
-          formed = is_formed p graphs are i c init g here (words_in init (message_at messages i));
+          formed = is_formed p graphs are i c init g here (mail_in init (message_at messages i));
           number = here.number;
           most = omega arith;
           regions = begin.regions_are;

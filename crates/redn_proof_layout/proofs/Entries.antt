@@ -1,5 +1,5 @@
 -- The entry of each chain: a WAIT for its message and an ENABLE, in slots that nothing writes.
-use Rattle.std.proofs.Common.{◌≡◌, ℕ, zero, suc, ◌+◌, ◌-◌, ◌*◌, ◌%◌, ◌^◌, ◌<◌, ◌≤◌, ◌⊎◌, inl, inr, true, false, List, [], ◌++◌, length, refl, sym, ap, ◌∙◌, arith, append-nil}
+use Rattle.std.proofs.Common.{◌≡◌, ℕ, zero, suc, ◌+◌, ◌-◌, ◌*◌, ◌%◌, ◌^◌, ◌<◌, ◌≤◌, ◌⊎◌, inl, inr, true, false, List, [], ◌++◌, length, refl, sym, ap, ◌∙◌, arith, append-nil, None}
 use Rattle.std.specs.Prelude.{nat_le, nat_lt}
 use Rattle.std.proofs.lemmas.Bool.{and_parts, ltb-true, false_from_ne_true as none_if}
 use Rattle.redn_words.specs.declared.types.Class.TheVariants as ask
@@ -19,6 +19,7 @@ use Rattle.redn_proof_ring.specs.Plans.{IsLaid, is_ring}
 use Rattle.redn_proof_ring.proofs.LapWindows.{first_inside}
 use Rattle.redn_emit.specs.Layout.{ChainPlan, operands, gate, limit_of_ring, entry_bytes, entry_row}
 use Rattle.redn_emit.specs.Placed.{entries_base}
+use Rattle.redn_proof_interleave.specs.GraphMachines.{mail_in}
 use Rattle.redn_proof_layout.specs.Layouts.{is_own}
 use Rattle.redn_proof_layout.specs.PlacedLaws.{AreSound}
 use Rattle.redn_proof_layout.specs.Beginning.{plan_for}
@@ -69,7 +70,7 @@ module _ (p : Program) (graphs : List Graph) (c : ChainPlan) where
     its_entry = entered p graphs are i c its.there
 
     laid : IsLaid (plan_for p graphs c)
-    laid = (is_formed p graphs are i c init g its []).laid
+    laid = (is_formed p graphs are i c init g its (mail_in init None)).laid
 
     pub waits_for : gate_of entry 0 ≡ operands 6 (RECEIVE_BASE + c.number) 1
     waits_for =

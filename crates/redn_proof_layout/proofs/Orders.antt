@@ -1,4 +1,5 @@
 -- The image of graphs does what the graphs do, and each segment of its rings runs in any order.
+use Rattle.std.proofs.Common.{refl}
 use Rattle.redn_words.specs.Steps.{after}
 use Rattle.redn_proof_window.specs.Scripts.{IsScript}
 use Rattle.redn_proof_window.proofs.Chains.{chain_moves, chain_stays, chain_goes_on}
@@ -21,14 +22,16 @@ emitted_follow_graphs p graphs i are numbers is =
     faithful_to_graphs p i graphs (λ messages. graphed_of (together p graphs i entries messages)) are.each.count (fits p graphs are i is) (λ messages sent. ring_side p i graphs messages (together p graphs i entries messages) (stand_together p graphs are numbers i is entries messages sent))
 
 pub segments_in_any_order : SegmentsInAnyOrder
-segments_in_any_order p graphs are c low words =
-    let kept : IsScript (segments_of p graphs c words) = courses_are_script (laying p graphs (plan_at p graphs c) (init_at p graphs c) (graph_at p graphs c) words) (is_laying p graphs are c (plan_at p graphs c) (init_at p graphs c) (graph_at p graphs c) (its p graphs are c low) words) in
-    let script = segments_of p graphs c words in
+segments_in_any_order p graphs are c low mail =
+    let kept : IsScript (segments_of p graphs c mail) = courses_are_script (laying p graphs (plan_at p graphs c) (init_at p graphs c) (graph_at p graphs c) mail)
+    (is_laying p graphs are c (plan_at p graphs c) (init_at p graphs c) (graph_at p graphs c) (its p graphs are c low) mail) in
+    let script = segments_of p graphs c mail in
     record {
       kept = kept;
+      no_first_gate = λ x m. refl;
       moves = chain_moves script kept;
       stays = λ s r z h same. chain_stays script kept s z h r same;
       left = λ s z h a q v at there other spared. chain_stays script kept s z h (after s a) (other_domain_same script kept s z h a q v at there other spared);
-      begins = λ s x ready rests regions a queues limit same is at. entry_opens script kept s x ready rests a queues limit regions same is at;
+      begins = λ s x ready counts rests regions a queues limit same is at. entry_opens script kept s x ready counts rests a queues limit regions same is at;
       goes_on = chain_goes_on script kept;
     }

@@ -16,7 +16,7 @@ use Rattle.redn_kernel.specs.declared.types.Program.{Program}
 use Rattle.redn_kernel.specs.CoreRun.{held}
 use Rattle.redn_graph.specs.declared.types.Graph.{Graph}
 use Rattle.redn_graph.specs.Fits.{IsCell, things_of}
-use Rattle.redn_graph.specs.Run.{graph_start}
+use Rattle.redn_graph.specs.Run.{Mail, in_hand, graph_start}
 use Rattle.redn_segment.specs.declared.types.Space.{Space}
 use Rattle.redn_segment.specs.declared.types.Space.TheVariants as space
 use Rattle.redn_segment.specs.declared.types.Draft.{Draft}
@@ -46,7 +46,7 @@ use Rattle.redn_proof_layout.proofs.FirstSeen.{begins}
 use Rattle.redn_proof_layout.proofs.Whole.{all_at}
 use Rattle.redn_proof_interleave.specs.Forms.{with_message}
 use Rattle.redn_proof_interleave.specs.Compiled.{Messages}
-use Rattle.redn_proof_interleave.specs.GraphMachines.{words_in}
+use Rattle.redn_proof_interleave.specs.GraphMachines.{mail_in}
 use Rattle.redn_proof_interleave.specs.RingSides.{message_at}
 use Rattle.redn_proof_chain.specs.Formed.{Formed, Point, its_meaning}
 use Rattle.redn_proof_layout.specs.Chains.{laying, formed, HasEntry, begun}
@@ -67,14 +67,17 @@ unfolding number
 word-zeros = refl
 
 module _ (p : Program) (graphs : List Graph) (are : AreSound p graphs) (numbers : HasNumbers p) (messages : Messages) (sent : AreMessages p.chains messages) (i : ℕ) (c : ChainPlan) (init : ChainInit) (g : Graph) (its : Its p graphs i c init g) where
+  abbrev its_mail : Mail
+  its_mail = mail_in init (message_at messages i)
+
   abbrev w : List ℕ
-  w = words_in init (message_at messages i)
+  w = in_hand its_mail (graph_start g init.vars)
 
   abbrev l : Laying
-  l = laying p graphs c init g w
+  l = laying p graphs c init g its_mail
 
   abbrev f : Formed
-  f = formed p graphs c init g w
+  f = formed p graphs c init g its_mail
 
   abbrev P : Plan
   P = plan l
@@ -86,7 +89,7 @@ module _ (p : Program) (graphs : List Graph) (are : AreSound p graphs) (numbers 
   first = begins p graphs are i c its.there
 
   laid : IsLaid P
-  laid = (is_formed p graphs are i c init g its w).laid
+  laid = (is_formed p graphs are i c init g its its_mail).laid
 
   abbrev m1 : List ℕ
   m1 = after p graphs are messages sent i c init g its
@@ -135,7 +138,7 @@ module _ (p : Program) (graphs : List Graph) (are : AreSound p graphs) (numbers 
       argument k small =
           let in_after : seen_in at m (space.Cell (Argument k)) ≡ seen_in at m1 (space.Cell (Argument k)) = seen_after p graphs are messages sent i c init g its m size same (space.Cell (Argument k)) (its.has_args k small) refl in
           let sent_is : m1 ≡ with_bytes_at (memory p graphs) (message_base c) bytes = ap (λ (o : Option (List ℕ)). with_message (memory p graphs) (Some (receive c)) o) there in
-          let words_are : argument_words bytes 0 init.args ≡ w = sym (ap (words_in init) there) in
+          let words_are : argument_words bytes 0 init.args ≡ w = sym (ap (λ (o : Option (List ℕ)). in_hand (mail_in init o) (graph_start g init.vars)) there) in
           ap (λ (b : List ℕ). word b 0) (in_after ∙ ap (λ (b : List ℕ). bytes_at b (message_base c + 8 * k) 8) sent_is ∙ mail_word (memory p graphs) (receive c) init (mail_fits p graphs are messages sent i c init g its) bytes came k small) ∙ argument_word bytes init.args k small ∙ ap (λ (ws : List ℕ). slice_index ws k) words_are
 
       cells : (a : Cell) → IsCell (things_of p.tables init g) a → is_number a ≡ false → (has_space c (space.Cell a) ≡ true) × (word_of (seen_in at m) a ≡ held w (graph_start g init.vars).cells a)
@@ -161,7 +164,7 @@ module _ (p : Program) (graphs : List Graph) (are : AreSound p graphs) (numbers 
 
       module _ (has : HasEntry p graphs c init g) where
         abbrev x : Point f
-        x = first_point (begun p graphs c init g w has)
+        x = first_point (begun p graphs c init g its_mail has)
 
         first_segment : (r : ℕ) → segment_of P (its_meaning f) x r ≡ 0
         first_segment r = by_test (r == x.ring)
@@ -180,5 +183,5 @@ module _ (p : Program) (graphs : List Graph) (are : AreSound p graphs) (numbers 
               enables = λ r j ring inside. enable_first r j ring (omega (arith, inside)) (gated_before r (P.ring r) (laid.rings r ring) j inside) ∙ first.enables r j ring inside ∙ (λ t. encoded (enable_request r (P.ring r) (limit_at r (P.ring r) 0 (sym (first_segment r) t) j)));
               last = λ r j ring end two. ready_as (covers 40 16) (last_enable r (P.ring r)) (seen_in at m (slot_space r (enable_of r (P.ring r) j))) (enable_first r j ring (omega (arith, end)) two ∙ first.last r j ring end two);
               descriptors = λ r ring. seen_first p graphs are messages sent i c init g its m size same (space.Descriptor r) (laid.descriptors r ring) refl (λ e. omega (arith, e)) ∙ first.descriptors r ring ∙ (λ t. descriptor_bytes r (P.ring r) (opening_at r (P.ring r) 0 (sym (first_segment r) t)));
-              fine = courses_begin l (is_laying p graphs are i c init g its w) (c.first + g.entry) (graph_start g init.vars) m has.ring_in begins_so;
+              fine = courses_begin l (is_laying p graphs are i c init g its its_mail) (c.first + g.entry) (graph_start g init.vars) m has.ring_in begins_so;
             }

@@ -28,7 +28,7 @@ use Rattle.redn_proof_layout.proofs.Beside.{chains_lie_apart}
 use Rattle.redn_proof_layout.proofs.Lengths.{count}
 use Rattle.redn_proof_layout.proofs.Queues.{stand}
 use Rattle.redn_proof_interleave.specs.Compiled.{Messages}
-use Rattle.redn_proof_interleave.specs.GraphMachines.{words_in}
+use Rattle.redn_proof_interleave.specs.GraphMachines.{mail_in}
 use Rattle.redn_proof_interleave.specs.RingSides.{message_at, first_tables}
 use Rattle.redn_proof_interleave.proofs.GraphHeadline.{graphs_are_faithful}
 use Rattle.redn_proof_chain.specs.Formed.{plan}
@@ -75,12 +75,12 @@ module _ (p : Program) (graphs : List Graph) (are : AreSound p graphs) (numbers 
   chains_many : length s.chains ≡ length p.chains
   chains_many = many p graphs are numbers image is all messages sent
 
-  chain_is : (c : ℕ) (chain : ChainInit) (g : Graph) → slice_get p.chains c ≡ Some chain → slice_get graphs c ≡ Some g → IsChain (T.chain c) c chain g (words_in chain (message_at messages c))
+  chain_is : (c : ℕ) (chain : ChainInit) (g : Graph) → slice_get p.chains c ≡ Some chain → slice_get graphs c ≡ Some g → IsChain (T.chain c) c chain g (mail_in chain (message_at messages c))
   chain_is c chain g e f =
       let same : init_at p graphs c ≡ chain = get_or_from_slice_get p.chains c chain no_chain e in
       record {
         number = (its p graphs are c (place_inside p.chains c chain e)).number;
-        words_are = ap (λ (x : ChainInit). words_in x (message_at messages c)) same;
+        mail_is = ap (λ (x : ChainInit). mail_in x (message_at messages c)) same;
         graph_is = get_or_from_slice_get graphs c g no_graph f;
         vars_are = ap (λ (x : ChainInit). x.vars) same;
       }

@@ -22,7 +22,7 @@ abbrev table : TableInit
 table = record { bytes = 1 ∷ 2 ∷ 3 ∷ 4 ∷ 5 ∷ 6 ∷ 7 ∷ 8 ∷ []; writable = true }
 
 abbrev program : Program
-program = record { tables = table ∷ []; chains = record { args = 1; vars = 0 ∷ []; body = [] } ∷ record { args = 0; vars = 9 ∷ []; body = [] } ∷ [] }
+program = record { tables = table ∷ []; chains = record { serve = 1; args = 1; vars = 0 ∷ []; body = [] } ∷ record { serve = 1; args = 0; vars = 9 ∷ []; body = [] } ∷ [] }
 
 abbrev graphs : List Graph
 graphs =
@@ -52,7 +52,7 @@ module _ (entries : AllHaveEntries program graphs) where
   w = world_of t
 
   -- the words of the messages, and the first values of variables
-  words_are : (t.chain 0).formed.course.words ∷ (t.chain 1).formed.course.words ∷ (t.chain 0).vars ∷ (t.chain 1).vars ∷ [] ≡ (7 ∷ []) ∷ [] ∷ (0 ∷ []) ∷ (9 ∷ []) ∷ []
+  words_are : (t.chain 0).formed.course.mail.words ∷ (t.chain 1).formed.course.mail.words ∷ (t.chain 0).vars ∷ (t.chain 1).vars ∷ [] ≡ (7 ∷ []) ∷ [] ∷ (0 ∷ []) ∷ (9 ∷ []) ∷ []
   unfolding number
   words_are = refl
 

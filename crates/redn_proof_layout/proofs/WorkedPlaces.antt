@@ -33,7 +33,7 @@ abbrev table : TableInit
 table = record { bytes = 1 ∷ 2 ∷ 3 ∷ 4 ∷ 5 ∷ 6 ∷ 7 ∷ 8 ∷ []; writable = true }
 
 abbrev program : Program
-program = record { tables = table ∷ []; chains = record { args = 1; vars = 0 ∷ []; body = [] } ∷ record { args = 0; vars = 9 ∷ []; body = [] } ∷ [] }
+program = record { tables = table ∷ []; chains = record { serve = 1; args = 1; vars = 0 ∷ []; body = [] } ∷ record { serve = 1; args = 0; vars = 9 ∷ []; body = [] } ∷ [] }
 
 abbrev first_graph : Graph
 first_graph = record { blocks = record { instrs = Store 0 (Num 0) (Argument 0) ∷ []; end = Reply (Argument 0 ∷ []) } ∷ []; entry = 0; hidden = 2 }

@@ -1,9 +1,10 @@
 -- The chains of a placed image as rings of their graphs, side by side.
-use Rattle.std.specs.Prelude.{◌≡◌, ℕ, ◌+◌, ◌^◌, ◌<◌, true, false, List, [], ◌∷◌, length, get_or}
+use Rattle.std.specs.Prelude.{◌≡◌, ℕ, ◌+◌, ◌^◌, ◌<◌, true, false, List, [], ◌∷◌, length, get_or, None}
 use Rattle.redn_words.specs.declared.limits.TheConstants.{RECEIVE_BASE}
 use Rattle.redn_kernel.specs.declared.types.ChainInit.{ChainInit}
 use Rattle.redn_kernel.specs.declared.types.Program.{Program}
 use Rattle.redn_graph.specs.declared.types.Graph.{Graph}
+use Rattle.redn_graph.specs.Run.{Mail}
 use Rattle.redn_graph.specs.Fits.{things_of}
 use Rattle.redn_proof_window.specs.Gateways.{Gateway}
 use Rattle.redn_proof_ring.specs.Plans.{is_ring}
@@ -15,7 +16,7 @@ use Rattle.redn_emit.specs.Placed.{entries_base, plans, tables}
 use Rattle.redn_proof_layout.specs.Layouts.{is_own, layout_of}
 use Rattle.redn_proof_layout.specs.PlacedLaws.{written_from}
 use Rattle.redn_proof_interleave.specs.Compiled.{Messages}
-use Rattle.redn_proof_interleave.specs.GraphMachines.{words_in}
+use Rattle.redn_proof_interleave.specs.GraphMachines.{mail_in}
 use Rattle.redn_proof_interleave.specs.RingSides.{message_at}
 use Rattle.redn_proof_chain.specs.Formed.{Formed, plan}
 use Rattle.redn_proof_chain.specs.Laid.{formed_of}
@@ -40,7 +41,7 @@ no_plan =
     }
 
 abbrev pub no_chain : ChainInit
-no_chain = record { args = 0; vars = []; body = [] }
+no_chain = record { serve = 1; args = 0; vars = []; body = [] }
 
 abbrev pub no_graph : Graph
 no_graph = record { hidden = 0; entry = 0; blocks = [] }
@@ -49,18 +50,18 @@ abbrev pub no_table : TablePlan
 no_table = record { number = 0; bytes = []; writable = false; base = 0 }
 
 module _ (p : Program) (graphs : List Graph) where
-  -- a chain's graph in its rings, with the words of its message; it stores into each table that may be written
-  abbrev pub laying : ChainPlan → ChainInit → Graph → List ℕ → Laying
-  laying c init g words =
+  -- a chain's graph in its rings, with its mail; it stores into each table that may be written
+  abbrev pub laying : ChainPlan → ChainInit → Graph → Mail → Laying
+  laying c init g mail =
       record {
         layout = layout_of p graphs c;
-        course = record { number = c.number; words = words; graph = g };
+        course = record { number = c.number; mail = mail; graph = g };
         things = things_of p.tables init g;
         written = written_from 0 p.tables;
       }
 
-  abbrev pub formed : ChainPlan → ChainInit → Graph → List ℕ → Formed
-  formed c init g words = formed_of (laying c init g words)
+  abbrev pub formed : ChainPlan → ChainInit → Graph → Mail → Formed
+  formed c init g mail = formed_of (laying c init g mail)
 
   -- its entry waits for the message and opens the ring of its entry block
   abbrev pub entry_of : ChainPlan → Gateway
@@ -73,14 +74,14 @@ module _ (p : Program) (graphs : List Graph) where
 
   -- the entry of a graph is a ring of its chain, and has a segment
   pub record HasEntry (c : ChainPlan) (init : ChainInit) (g : Graph) : Type 0 where
-    pub ring_in : is_ring (plan (formed c init g [])) (c.first + g.entry) ≡ true
-    pub segment_in : 0 < ((plan (formed c init g [])).ring (c.first + g.entry)).segments
+    pub ring_in : is_ring (plan (formed c init g (mail_in init None))) (c.first + g.entry) ≡ true
+    pub segment_in : 0 < ((plan (formed c init g (mail_in init None))).ring (c.first + g.entry)).segments
 
   -- as it begins
-  abbrev pub begun : (c : ChainPlan) (init : ChainInit) (g : Graph) → List ℕ → HasEntry c init g → Begun
-  begun c init g words has =
+  abbrev pub begun : (c : ChainPlan) (init : ChainInit) (g : Graph) → Mail → HasEntry c init g → Begun
+  begun c init g mail has =
       record {
-        formed = formed c init g words;
+        formed = formed c init g mail;
         entry = entry_of c;
         mine = is_own (entries_base p graphs) c;
         vars = init.vars;
@@ -113,7 +114,7 @@ module _ (p : Program) (graphs : List Graph) where
   abbrev pub together : Image → AllHaveEntries → Messages → Together
   together image entries messages =
       record {
-        chain = λ i. begun (plan_at i) (init_at i) (graph_at i) (words_in (init_at i) (message_at messages i)) (entries i);
+        chain = λ i. begun (plan_at i) (init_at i) (graph_at i) (mail_in (init_at i) (message_at messages i)) (entries i);
         begin = start_of image messages;
         shelves = shelves;
         most = 2 ^ 62;

@@ -20,7 +20,7 @@ use Rattle.redn_segment.specs.Plain.{remote_space}
 use Rattle.redn_segment.specs.Primed.{covers}
 use Rattle.redn_segment.specs.Sites.{is_table}
 use Rattle.redn_proof_window.specs.Scripts.{Wrote}
-use Rattle.redn_proof_window.specs.Stages.{Standing}
+use Rattle.redn_proof_window.specs.Stages.{Standing, all_written}
 use Rattle.redn_proof_window.specs.Windows.{Opening, bodies_of}
 use Rattle.redn_words.specs.Landings.{Change}
 use Rattle.redn_words.specs.Requests.{encoded}
@@ -28,7 +28,7 @@ use Rattle.redn_segment.specs.declared.types.Space.TheVariants as space
 use Rattle.redn_segment.specs.declared.types.Draft.{Draft}
 use Rattle.redn_segment.specs.Primed.{IsBytes}
 
-module _ (c : Plan) (laid : IsLaid c) (G : Meaning c) (promises : Promises c G) (x : Turn c G) (m : List ℕ) (ready : Ready c G x m) (n : List ℕ) (event : List Change) (last : Standing (window_at c G x m) n (λ k. true) event) where
+module _ (c : Plan) (laid : IsLaid c) (G : Meaning c) (promises : Promises c G) (x : Turn c G) (m : List ℕ) (ready : Ready c G x m) (n : List ℕ) (event : List Change) (last : Standing (window_at c G x m) n all_written event) where
   abbrev r : ℕ
   r = x.ring
 

@@ -31,7 +31,7 @@ use Rattle.redn_segment.specs.Orders.{is_send, Follows}
 use Rattle.redn_segment.specs.Plain.{Bytes, Put, Outcome, Went, Faults, Bad, acts, opcode_in, local_space, remote_space, local_at, remote_at, local_bytes, remote_bytes, placed}
 use Rattle.redn_segment.specs.Primed.{IsBytes}
 use Rattle.redn_segment.specs.Sites.{space_of, start_of, is_table}
-use Rattle.redn_proof_window.specs.Stages.{Agrees, Standing, effect}
+use Rattle.redn_proof_window.specs.Stages.{Agrees, Standing, all_written, effect}
 use Rattle.redn_proof_window.specs.Windows.{Opening, bodies_of, origin_of, landing_on, planned, may_write}
 use Rattle.redn_words.proofs.Bytes.{same_range}
 use Rattle.redn_words.specs.Landings.{Landing, Change, landing}
@@ -258,7 +258,8 @@ module _ (c : Plan) (laid : IsLaid c) (G : Meaning c) (promises : Promises c G) 
     pub leaves : Leaves c r j (seen_in home m) (seen_in home n)
     pub made : (d : Draft) → IsBody c r j e_at d → event ≡ map (change_of home) (leaves.each e_at)
 
-  module _ (n : List ℕ) (event : List Change) (last : Standing w n (λ k. true) event) (its : List Put) (state : Bytes) (events : List Obs) (tables : HasBytes state) (quiet : length (ring_bodies r ring j) ≤ e_at → events ≡ []) (is : (d : Draft) → IsBody c r j e_at d → EventIs its event state events d) where
+  module _ (n : List ℕ) (event : List Change) (last : Standing w n all_written event) (its : List Put) (state : Bytes) (events : List Obs) (tables : HasBytes state) (quiet : length (ring_bodies r ring j) ≤ e_at → events ≡ [])
+      (is : (d : Draft) → IsBody c r j e_at d → EventIs its event state events d) where
     effects_are : (k : ℕ) → k < bodies_of w → effect w event k ≡ map (change_of home) (each its k)
     effects_are k l =
         let body = body_at c laid G promises x m ready k l in

@@ -22,7 +22,7 @@ use Rattle.redn_segment.specs.Plain.{opcode_in, local_space, remote_space}
 use Rattle.redn_segment.specs.Primed.{writes_at}
 use Rattle.redn_segment.specs.Sites.{space_of, same_space}
 use Rattle.redn_proof_window.proofs.Ends.{byte_kept, byte_written}
-use Rattle.redn_proof_window.specs.Stages.{Orderly, Standing, effect}
+use Rattle.redn_proof_window.specs.Stages.{Orderly, Standing, all_written, effect}
 use Rattle.redn_proof_window.specs.Windows.{Opening, bodies_of, may_write}
 use Rattle.redn_words.proofs.Bytes.{over_missed, byte_put, same_range}
 use Rattle.redn_words.specs.Bytes.{byte, hits, covers, over, put as put_byte}
@@ -102,7 +102,7 @@ module _ (c : Plan) (laid : IsLaid c) (G : Meaning c) (promises : Promises c G) 
       by_side a (inl f) same locally = inl (ap space_of (sym (local_site a d.op f)) ∙ same, locally refl)
       by_side a (inr f) same locally = inr (ap space_of (sym (remote_site a d.op f)) ∙ same)
 
-  module _ (n : List ℕ) (event : List Change) (last : Standing w n (λ k. true) event) where
+  module _ (n : List ℕ) (event : List Change) (last : Standing w n all_written event) where
     pub kept_byte : (p : Space) (i : ℕ) → IsPrivate c p → i < room_of home p → ((k : ℕ) (d : Draft) → k < bodies_of w → IsBody c r j k d → may_write w k (base_of home p + i) ≡ false) → byte n (base_of home p + i) ≡ byte m (base_of home p + i)
     kept_byte p i its inside none =
         byte_kept w ok n event last (base_of home p + i) (laid.private p i its inside) (λ k l. let body = body_at k l in none k body.0 l body.1)

@@ -22,7 +22,7 @@ use Rattle.redn_segment.proofs.Filled.{all_bytes}
 use Rattle.redn_segment.specs.Homes.{Home, base_of, room_of}
 use Rattle.redn_segment.specs.Primed.{IsBytes, covers, writes_at}
 use Rattle.redn_proof_window.proofs.Raised.{second_at}
-use Rattle.redn_proof_window.specs.Stages.{Standing}
+use Rattle.redn_proof_window.specs.Stages.{Standing, all_written}
 use Rattle.redn_proof_window.specs.Windows.{bodies_of, may_write}
 use Rattle.redn_words.specs.Bytes.{byte}
 use Rattle.redn_words.proofs.Fields.{with_second}
@@ -71,7 +71,7 @@ with_limit queue limit then =
     let past : drop (8 + length (spelled 8 then)) (spelled 8 queue ++ spelled 8 limit) ≡ [] = drop_all (8 + length (spelled 8 then)) (spelled 8 queue ++ spelled 8 limit) (omega (arith, length-append (spelled 8 queue) (spelled 8 limit), length-spelled 8 queue, length-spelled 8 limit, length-spelled 8 then)) in
     ap (λ (l : List ℕ). l ++ (spelled 8 then ++ drop (8 + length (spelled 8 then)) (spelled 8 queue ++ spelled 8 limit))) front ∙ ap (λ (l : List ℕ). spelled 8 queue ++ (spelled 8 then ++ l)) past ∙ ap (λ (l : List ℕ). spelled 8 queue ++ l) (simp append-nil refl)
 
-module _ (c : Plan) (laid : IsLaid c) (G : Meaning c) (promises : Promises c G) (x : Turn c G) (m : List ℕ) (ready : Ready c G x m) (n : List ℕ) (event : List Change) (last : Standing (window_at c G x m) n (λ k. true) event) where
+module _ (c : Plan) (laid : IsLaid c) (G : Meaning c) (promises : Promises c G) (x : Turn c G) (m : List ℕ) (ready : Ready c G x m) (n : List ℕ) (event : List Change) (last : Standing (window_at c G x m) n all_written event) where
   abbrev pub r : ℕ
   r = x.ring
 

@@ -11,21 +11,24 @@ use Rattle.redn_proof_landing.specs.Homes.{seen_in}
 use Rattle.redn_proof_landing.specs.Segments.{slot_space}
 use Rattle.redn_proof_ring.proofs.LapBehind.{leaves, Onward, ready_next}
 use Rattle.redn_proof_ring.proofs.LapNext.{limit_of, seen_bytes}
-use Rattle.redn_proof_ring.proofs.LapWindows.{ring_small, few_rounds, first_inside, one_signal, some_body, enable_is, enable_copy, own_limit, ring_orderly, gates_count}
+use Rattle.redn_proof_ring.proofs.LapWindows.{ring_small, few_rounds, first_inside, one_signal, some_body, enable_is, enable_copy, own_limit, ends_or_gates, ring_orderly}
 use Rattle.redn_proof_ring.specs.Plans.{Plan, IsLaid, slots_in, is_ring}
 use Rattle.redn_proof_ring.specs.Turns.{Meaning, HasBytes, Promises, Turn, Ready, Leaves, segment_of, window_at, row_at, head_at, counted_at, script_of, GoesTo}
-use Rattle.redn_recycle.specs.Laps.{Ring, IsRing, bodies_of as ring_bodies, gates_of, enable_of, opening_at, laps_begun}
+use Rattle.redn_recycle.specs.Laps.{Ring, IsRing, is_send_last, bodies_of as ring_bodies, gates_of, enable_of, opening_at, laps_begun}
 use Rattle.redn_segment.specs.Plain.{Bytes}
 use Rattle.redn_segment.specs.Primed.{IsBytes}
 use Rattle.redn_proof_window.specs.Scripts.{Behind, Wrote, IsScript, IsOver}
-use Rattle.redn_proof_window.specs.Stages.{Gated, Standing}
-use Rattle.redn_proof_window.specs.Windows.{Opening, bodies_of, slots_of, signals, enable_of as window_enable}
+use Rattle.redn_proof_window.specs.Stages.{Standing, all_written}
+use Rattle.redn_proof_window.specs.Windows.{Last, By_gates, Opening, bodies_of, slots_of, signals, enable_of as window_enable}
 use Rattle.redn_words.proofs.Numbers.{number-bytes_at, number-spelled, length-spelled}
 use Rattle.redn_words.specs.Others.{row_may_raise}
 use Rattle.redn_words.specs.Landings.{Change}
 use Rattle.redn_words.specs.Requests.{decoded}
 use Rattle.redn_words.specs.Words.{bytes_at, number, spelled}
 use Rattle.redn_segment.specs.declared.types.Space.TheVariants as space
+
+gates_last : By_gates ≡ Last → ⊥
+gates_last e = cc
 
 -- a descriptor read as the operands of an ENABLE
 operands : (slot : List ℕ) (queue limit : ℕ) → queue < 256 ^ 8 → limit < 256 ^ 8 → bytes_at slot 40 16 ≡ spelled 8 queue ++ spelled 8 limit → (number 8 slot 40 ≡ queue) × (number 8 slot 48 ≡ limit)
@@ -81,8 +84,8 @@ module _ (c : Plan) (laid : IsLaid c) (G : Meaning c) where
       window_slots : slots_of w ≡ length (ring_bodies r ring j) + gates_of r ring j
       window_slots = omega (arith, length-copies c.home r m (ring.first j) (length (ring_bodies r ring j)), length-copies c.home r m (ring.first j + length (ring_bodies r ring j)) (gates_of r ring j))
 
-      two_of : length w.gates ≡ 2 → gates_of r ring j ≡ 2
-      two_of two = sym (gates_count c laid G promises x m ready) ∙ two
+      pub two_of : w.ending ≢ Last → gates_of r ring j ≡ 2
+      two_of on = (ends_or_gates (is_send_last r ring j)).0 on
 
       -- the ring that the last ENABLE names
       module _ (gate : gates_of r ring j ≡ 2) (end : suc j ≡ ring.segments) where
@@ -117,17 +120,17 @@ module _ (c : Plan) (laid : IsLaid c) (G : Meaning c) where
             let read = operands (seen_in c.home m (slot_space r (enable_of r ring j))) target limit target_small limit_small (goal.2 ∙ ready.descriptors target goal.1) in
             (ap (λ (b : List ℕ). number 8 b 40) copy ∙ read.0, ap (λ (b : List ℕ). number 8 b 48) copy ∙ read.1)
 
-      pub target_ring : length w.gates ≡ 2 → is_ring c (window_enable w).first ≡ true
-      target_ring two =
-          let gate = two_of two in
+      pub target_ring : w.ending ≡ By_gates → is_ring c (window_enable w).first ≡ true
+      target_ring by =
+          let gate = two_of (λ e. absurd (gates_last (sym by ∙ e))) in
           elim (cases_eq (suc j) ring.segments) [
             | inl end ↦ ap (is_ring c) (last_is gate end).0 ∙ (goal gate end).1
             | inr ne ↦ ap (λ (q : Request). is_ring c q.first) (enable_is c laid G promises x m ready gate (let l = x.segment_in in omega (arith, ne))) ∙ x.ring_in
           ]
 
-      module _ (gated : Gated w) (event : List Change) (n : List ℕ) (wrote : w.event < bodies_of w → Wrote w event) (few : w.from + slots_of w ≤ c.most) (bytes : IsBytes n) (last : Standing w n (λ k. true) event) where
+      module _ (goes : w.ending ≢ Last) (event : List Change) (n : List ℕ) (wrote : w.event < bodies_of w → Wrote w event) (few : w.from + slots_of w ≤ c.most) (bytes : IsBytes n) (last : Standing w n all_written event) where
         gate : gates_of r ring j ≡ 2
-        gate = two_of gated.two
+        gate = two_of goes
 
         next_first : ring.first (suc j) ≡ ring.first j + (length (ring_bodies r ring j) + 2)
         next_first = let next = its_ring.follows j x.segment_in in omega (arith, next, gate)
@@ -173,8 +176,8 @@ module _ (c : Plan) (laid : IsLaid c) (G : Meaning c) where
               let count : counted_at c G onward r ≡ x.laps r * ring.segments + suc j = counted_of onward r x.ring_in ∙ ap (λ (k : ℕ). x.laps r * ring.segments + k) (own_segment onward) in
               record {
                 ready = ready_next c laid G promises x m ready n event last gate onward onward_goes;
-                queue = sym (ap (λ (q : Request). q.first) enable);
-                limit = ap (λ (q : Request). q.second) enable ∙ own_limit c laid G promises x m ready gate ∙ omega (arith, opened, head, slots_next onward, mul_comm (slots_in c r) (x.laps r));
+                queue = λ by. sym (ap (λ (q : Request). q.first) enable);
+                limit = λ by. ap (λ (q : Request). q.second) enable ∙ own_limit c laid G promises x m ready gate ∙ omega (arith, opened, head, slots_next onward, mul_comm (slots_in c r) (x.laps r));
                 regions = refl;
                 own_at = head ∙ omega (arith, next_first, gates_slots);
                 own_counted = count ∙ sym counted_next;
@@ -252,8 +255,8 @@ module _ (c : Plan) (laid : IsLaid c) (G : Meaning c) where
               let opening : limit gate end ≡ (c.ring u).first 1 + slots_in c u * turned.laps u = ap (λ (k : ℕ). (c.ring u).first 1 + slots_in c u * k) begun in
               record {
                 ready = ready_next c laid G promises x m ready n event last gate turned turned_goes;
-                queue = sym (last_is gate end).0;
-                limit = (last_is gate end).1 ∙ opening ∙ omega (arith, head, slots_next turned, opened, starts, mul_comm (slots_in c u) (turned.laps u));
+                queue = λ by. sym (last_is gate end).0;
+                limit = λ by. (last_is gate end).1 ∙ opening ∙ omega (arith, head, slots_next turned, opened, starts, mul_comm (slots_in c u) (turned.laps u));
                 regions = refl;
                 own_at = own_head ∙ ap (λ (k : ℕ). k * slots_in c r + ring.first 0) own_laps ∙ omega (arith, after_ring, suc-mul (x.laps r) (slots_in c r), own_starts);
                 own_counted = own_count ∙ ap (λ (k : ℕ). k * ring.segments + 0) own_laps ∙ omega (arith, suc-mul (x.laps r) ring.segments, end) ∙ sym counted;
@@ -277,7 +280,7 @@ module _ (c : Plan) (laid : IsLaid c) (G : Meaning c) where
 
     -- behind a window that is over
     pub goes_on : (x : Turn c G) (m : List ℕ) (event : List Change) (n : List ℕ) → IsOver (script_of c G) x m event n → (y : Turn c G) × Behind (script_of c G) x y m n × GoesTo c G x y m n
-    goes_on x m event n over = behind_is x m over.ready over.gated event n over.wrote over.last over.sound over.standing
+    goes_on x m event n over = behind_is x m over.ready over.goes_on event n over.wrote over.last over.sound over.standing
 
     pub from_here : (x : Turn c G) → x.laps x.ring * slots_in c x.ring + (c.ring x.ring).first x.segment ≡ head_at c G x x.ring
     from_here x = ap (λ (k : ℕ). x.laps x.ring * slots_in c x.ring + (c.ring x.ring).first k) (sym (own_segment x)) ∙ sym (head_of x x.ring x.ring_in)
@@ -295,7 +298,7 @@ module _ (c : Plan) (laid : IsLaid c) (G : Meaning c) where
           row_is = λ x m. refl;
           from = λ x m. from_here x;
           counter = λ x m. counted_here x;
-          target = λ x m ready two. target_ring x m ready two;
+          target = λ x m ready by. target_ring x m ready by;
           managed = λ x m q e. managed_at x q e;
           behind = λ x m event n over. let y = goes_on x m event n over in (y.0, y.1);
         }

@@ -1,6 +1,6 @@
 -- The windows of rings with laps are orderly.
-use Rattle.std.proofs.Common.{◌≡◌, ℕ, zero, suc, ◌+◌, ◌-◌, ◌*◌, ◌%◌, ◌^◌, ◌<◌, ◌≤◌, ◌⊎◌, inl, inr, Bool, true, false, cond, ◌==◌, List, [], ◌∷◌, length, refl, sym, ap, ◌∙◌, subst, arith, length-append}
-use Rattle.std.specs.Prelude.{nat_le, nat_lt, slice_get, Some}
+use Rattle.std.proofs.Common.{◌≡◌, ◌≢◌, ℕ, zero, suc, ◌+◌, ◌-◌, ◌*◌, ◌%◌, ◌^◌, ◌<◌, ◌≤◌, inl, inr, Bool, true, false, cond, ◌==◌, List, [], ◌∷◌, length, refl, sym, ap, ◌∙◌, subst, arith, length-append}
+use Rattle.std.specs.Prelude.{nat_le, nat_lt, slice_get, Some, if◌then◌else◌}
 use Rattle.std.proofs.lemmas.Bool.{cases_eq, eq-eqb, ne_eqb, eqb-true, and_parts, ltb-true, le-ltb as lt_false}
 use Rattle.std.proofs.lemmas.Bool.Decides.{nat_tests}
 use Rattle.std.proofs.Math.Nat.{mul-suc, mul_comm, mul-le-mul_right}
@@ -11,14 +11,14 @@ use Rattle.redn_proof_landing.proofs.Segments.{length-copies, copy_is, segment_o
 use Rattle.redn_proof_landing.specs.Homes.{seen_in}
 use Rattle.redn_proof_landing.specs.Segments.{is_table_space, slot_space}
 use Rattle.redn_proof_ring.proofs.LapSteps.{goes_through}
-use Rattle.redn_proof_ring.specs.Plans.{is_ring, Plan, IsLaid, IsBody, part_of, slots_in, body_slot}
+use Rattle.redn_proof_ring.specs.Plans.{is_ring, ending_of, Plan, IsLaid, IsBody, part_of, slots_in, body_slot}
 use Rattle.redn_proof_ring.specs.Turns.{Meaning, Promises, Turn, Ready, segment_of, window_at}
 use Rattle.redn_recycle.specs.Laps.{Ring, IsRing, bodies_of as ring_bodies, lap_requests, gates_of, flags_at, is_send_last, wait_of, enable_of, count_at, limit_at, laps_begun, laps_behind, gate, wait_request, enable_request, last_enable}
 use Rattle.redn_segment.specs.Homes.{base_of, room_of, LieApart}
 use Rattle.redn_segment.specs.Primed.{covers}
 use Rattle.redn_proof_window.proofs.Windows.{signals_more}
-use Rattle.redn_proof_window.specs.Stages.{Orderly, Gated}
-use Rattle.redn_proof_window.specs.Windows.{Opening, bodies_of, slots_of, copy_of, request_of, signals, wait_of as window_wait, enable_of as window_enable}
+use Rattle.redn_proof_window.specs.Stages.{IsEnding, Orderly, Gated}
+use Rattle.redn_proof_window.specs.Windows.{Last, By_gates, Opening, bodies_of, slots_of, copy_of, request_of, signals, wait_of as window_wait, enable_of as window_enable}
 use Rattle.redn_words.proofs.Slots.{decoded-encoded}
 use Rattle.redn_words.specs.Slots.{IsNarrow}
 use Rattle.redn_words.specs.declared.limits.TheConstants.{RECEIVE_BASE}
@@ -71,12 +71,10 @@ pub laps_there : (name : ℕ) (r : Ring) (j : ℕ) → gates_of name r j ≡ 2 �
 laps_there name r zero e = one_or_two r.sends _ _ _
 laps_there name r (suc j) e = none_or_two (is_send_last name r (suc j)) _ _ e
 
-zero_or_two : (b : Bool) → (◌≡◌ {A = ℕ} (cond b 0 2) 0) ⊎ (◌≡◌ {A = ℕ} (cond b 0 2) 2)
-zero_or_two true = inl refl
-zero_or_two false = inr refl
-
-pub gates_two : (name : ℕ) (r : Ring) (j : ℕ) → (gates_of name r j ≡ 0) ⊎ (gates_of name r j ≡ 2)
-gates_two name r j = zero_or_two (is_send_last name r j)
+-- a segment without gates is the last, and one with gates ends by them
+pub ends_or_gates : (b : Bool) → ((if b then Last else By_gates) ≢ Last → ◌≡◌ {A = ℕ} (cond b 0 2) 2) × ((if b then Last else By_gates) ≡ Last → b ≡ true)
+ends_or_gates true = ((λ ne. absurd (ne refl)), λ e. refl)
+ends_or_gates false = ((λ ne. refl), λ e. absurd (cc))
 
 flag_at : (name : ℕ) (r : Ring) (j k : ℕ) → flags_at name r j k % 2 ≡ flags_at name r j k
 flag_at name r j k = elim (suc k == length (ring_bodies name r j)) as (λ b. (cond b 1 0) % 2 ≡ cond b 1 0) [ true ↦ refl | false ↦ refl ]
@@ -276,5 +274,9 @@ module _ (c : Plan) (laid : IsLaid c) (G : Meaning c) (promises : Promises c G) 
         numbered : r < RECEIVE_BASE
         numbered = ring_small c laid r x.ring_in
 
-        gates : (length w.gates ≡ 0) ⊎ Gated w
-        gates = elim (gates_two r ring j) [ inl none ↦ inl (gates_count ∙ none) | inr two ↦ inr (gated two) ]
+        gates : IsEnding w (ending_of r ring j)
+        gates = by_last (is_send_last r ring j) refl
+          where
+            by_last : (b : Bool) → is_send_last r ring j ≡ b → IsEnding w (if b then Last else By_gates)
+            by_last true e = gates_count ∙ ap (λ (t : Bool). cond t 0 2) e
+            by_last false e = gated (ap (λ (t : Bool). cond t 0 2) e)

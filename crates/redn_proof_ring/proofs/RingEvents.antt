@@ -23,6 +23,7 @@ use Rattle.redn_recycle.specs.Laps.{Ring, lap_requests, bodies_of, gates_of}
 use Rattle.redn_recycle.specs.Lapped.{segment_at, ref_in_laps, ring_of, event_in, first_of}
 use Rattle.redn_recycle.proofs.Starts.{added_few}
 use Rattle.redn_recycle.proofs.Rings.{added_is}
+use Rattle.redn_proof_ring.specs.Plans.{ending_of}
 use Rattle.redn_proof_ring.specs.Apart.{LeavesLaps, has_flat_local}
 use Rattle.redn_proof_ring.proofs.RingApart.{inside_all, free_all, spared_all}
 use Rattle.redn_proof_ring.proofs.LapSteps.{slice_get_append, LapOf, Raises_wait, Raises_enable, Raises_descriptor, lap_of, some_is}
@@ -145,7 +146,8 @@ module _ (segments : List (List Draft)) (some : 2 ≤ length segments) (number d
         no_table k x e ne true t = absurd (ne (sym (event_is ds k x h.events e (table_shows x x.op t))))
 
     -- a segment with its lap requests is apart
-    pub ring_apart : (mine : Space → Bool) → list_all (both_sides (λ (a : Side). mine (space_of a.site))) (bodies_of number r j) ≡ true → IsApart mine number (record { first = first_of segments j; drafts = bodies_of number r j; gates = gates_of number r j; event = r.event j })
+    pub ring_apart : (mine : Space → Bool) → list_all (both_sides (λ (a : Side). mine (space_of a.site))) (bodies_of number r j) ≡ true
+        → IsApart mine number (record { first = first_of segments j; drafts = bodies_of number r j; gates = gates_of number r j; ending = ending_of number r j; event = r.event j })
     ring_apart mine placed =
         record {
           inside = inside_all segments some number domain base j l h;

@@ -1,5 +1,5 @@
 -- The rings of a chain as they are laid out in memory. A ring is named by the number of its queue.
-use Rattle.std.specs.Prelude.{◌≡◌, ◌≢◌, ℕ, suc, ◌+◌, ◌^◌, ◌<◌, ◌≤◌, ◌⊎◌, Bool, true, false, ◌&&◌, List, length, slice_get, Some, nat_le, nat_lt}
+use Rattle.std.specs.Prelude.{◌≡◌, ◌≢◌, ℕ, suc, ◌+◌, ◌^◌, ◌<◌, ◌≤◌, ◌⊎◌, Bool, true, false, ◌&&◌, List, length, slice_get, Some, nat_le, nat_lt, if◌then◌else◌}
 use Rattle.redn_words.specs.declared.types.Region.{Region}
 use Rattle.redn_words.specs.declared.types.Request.{Request}
 use Rattle.redn_words.specs.declared.types.Opcode.TheVariants.{Add}
@@ -17,7 +17,12 @@ use Rattle.redn_segment.specs.Orders.{is_send}
 use Rattle.redn_proof_landing.specs.Homes.{Granted}
 use Rattle.redn_proof_landing.specs.Requested.{requested, SparesFixed}
 use Rattle.redn_proof_landing.specs.Segments.{Lying, Part, IsApart, is_table_space}
-use Rattle.redn_recycle.specs.Laps.{Ring, IsRing, bodies_of, gates_of, flags_at, wait_of, enable_of}
+use Rattle.redn_proof_window.specs.Windows.{Ending, Last, By_gates}
+use Rattle.redn_recycle.specs.Laps.{Ring, IsRing, is_send_last, bodies_of, gates_of, flags_at, wait_of, enable_of}
+
+-- the segment of a last SEND is the last of all
+abbrev pub ending_of : ℕ → Ring → ℕ → Ending
+ending_of number r j = if is_send_last number r j then Last else By_gates
 
 -- the queues of the rings follow one another
 pub record Plan : Type 0 where
@@ -41,7 +46,14 @@ module _ (c : Plan) where
   slots_in r = (c.ring r).row.slots
 
   abbrev pub part_of : ℕ → ℕ → Part
-  part_of r j = record { first = (c.ring r).first j; drafts = bodies_of r (c.ring r) j; gates = gates_of r (c.ring r) j; event = (c.ring r).event j }
+  part_of r j =
+      record {
+        first = (c.ring r).first j;
+        drafts = bodies_of r (c.ring r) j;
+        gates = gates_of r (c.ring r) j;
+        ending = ending_of r (c.ring r) j;
+        event = (c.ring r).event j;
+      }
 
   abbrev pub body_slot : ℕ → ℕ → ℕ → ℕ
   body_slot r j k = (c.ring r).first j + k

@@ -20,3 +20,7 @@ below_four P a b c d (suc k) l = below_three (λ n. P (suc n)) b c d k (omega ar
 pub below_five : (P : ℕ → Type 0) → P 0 → P 1 → P 2 → P 3 → P 4 → (k : ℕ) → k < 5 → P k
 below_five P a b c d e zero l = a
 below_five P a b c d e (suc k) l = below_four (λ n. P (suc n)) b c d e k (omega arith)
+
+pub below_six : (P : ℕ → Type 0) → P 0 → P 1 → P 2 → P 3 → P 4 → P 5 → (k : ℕ) → k < 6 → P k
+below_six P a b c d e f zero l = a
+below_six P a b c d e f (suc k) l = below_five (λ n. P (suc n)) b c d e f k (omega arith)

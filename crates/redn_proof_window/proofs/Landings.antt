@@ -17,39 +17,44 @@ use Rattle.redn_words.proofs.Bytes.{over_missed, length-changed, byte-changed, s
 use Rattle.redn_words.specs.Bytes.{byte, hits, over}
 use Rattle.redn_words.specs.Ranges.{Fits, holds}
 use Rattle.redn_words.proofs.Footprints.{landing_same, refused_writes}
-use Rattle.redn_proof_window.specs.Windows.{Opening, Window, Held, bodies_of, copy_of, request_of, origin_of, landing_on, planned, may_write, flight, enable_of, landed}
-use Rattle.redn_proof_window.specs.Stages.{Orderly, Plain, Agrees, effect, value, Standing, Progress, landed_in, Stage}
+use Rattle.redn_proof_window.specs.Windows.{Opening, Window, Held, bodies_of, place_of, past_gate, copy_of, request_of, body_of, origin_of, landing_on, planned, may_write, flight, enable_of}
+use Rattle.redn_proof_window.specs.Stages.{Orderly, Plain, Agrees, effect, value, Standing, Progress, landed_in, written_in, Stage}
 use Rattle.redn_proof_window.specs.Moves.{budget_of, marks_due, cost, Quiet, Telling, Faulting}
 use Rattle.redn_proof_window.proofs.Marks.{landed_at as landed_mark, landed_lands, landed_other}
 use Rattle.redn_proof_window.proofs.Orders.{value_lands}
+use Rattle.redn_proof_window.proofs.Counters.{counts_stay}
+use Rattle.redn_proof_window.proofs.Places.{place_past, past_place, body_past}
+use Rattle.redn_proof_window.proofs.Turns.{goes_past}
 use Rattle.redn_proof_window.proofs.Windows.{Flying}
 use Rattle.redn_proof_window.proofs.Stages.{effect_misses, writes_fit, writes_may, byte_stands, event_agrees}
 
 module _ (w : Opening) (ok : Orderly w) where
   -- the private bytes after one more body has landed
-  pub record OneMore (memory : List ℕ) (marks next : ℕ → Bool) (event then_event writes : List Change) (k : ℕ) : Type 0 where
+  pub record OneMore (memory : List ℕ) (written next : ℕ → ℕ → Bool) (event then_event writes : List Change) (k : ℕ) : Type 0 where
     pub body : k < bodies_of w
-    pub unlanded : marks k ≡ false
-    pub lands : next k ≡ true
-    pub others : (j : ℕ) → j < bodies_of w → j ≢ k → next j ≡ marks j
+    pub unwritten : (p : ℕ) → written k p ≡ false
+    pub writing : (p : ℕ) → next k p ≡ true
+    pub others : (j p : ℕ) → j < bodies_of w → j ≢ k → next j p ≡ written j p
     pub its : effect w then_event k ≡ writes
-    pub same : (j : ℕ) → j < bodies_of w → marks j ≡ true → effect w then_event j ≡ effect w event j
+    pub same : (j p : ℕ) → j < bodies_of w → written j p ≡ true → effect w then_event j ≡ effect w event j
     pub fits : Fits (length w.memory) writes
     pub then_fits : Fits (length w.memory) then_event
     pub may : (p : ℕ) → hits writes p ≡ true → may_write w k p ≡ true
     pub reached : (p : ℕ) → hits then_event p ≡ true → may_write w w.event p ≡ true
 
-  pub standing_lands : (memory : List ℕ) (marks next : ℕ → Bool) (event then_event writes : List Change) (k : ℕ) → Standing w memory marks event → OneMore memory marks next event then_event writes k → Standing w (changed memory writes) next then_event
-  standing_lands memory marks next event then_event writes k h m =
+  pub standing_lands : (memory : List ℕ) (written next : ℕ → ℕ → Bool) (event then_event writes : List Change) (k : ℕ) → Standing w memory written event → OneMore memory written next event then_event writes k
+      → Standing w (changed memory writes) next then_event
+  standing_lands memory written next event then_event writes k h m =
       let fits : Fits (length memory) writes = subst (λ n. Fits n writes) (sym h.size) m.fits in
       record {
         size = length-changed memory writes fits ∙ h.size;
-        bytes = λ p ours. byte-changed memory writes p fits ∙ ap (over writes p) (h.bytes p ours) ∙ ap (λ (c : List Change). over c p (value marks (effect w event) (bodies_of w) p (byte w.memory p))) (sym m.its) ∙ sym (value_lands marks next (effect w event) (effect w then_event) p (byte w.memory p) k (bodies_of w) m.body m.unlanded m.lands m.others m.same (apart p));
+        bytes = λ p ours. byte-changed memory writes p fits ∙ ap (over writes p) (h.bytes p ours) ∙ ap (λ (c : List Change). over c p (value written (effect w event) (bodies_of w) p (byte w.memory p))) (sym m.its)
+            ∙ sym (value_lands written next (effect w event) (effect w then_event) p (byte w.memory p) k (bodies_of w) m.body (m.unwritten p) (m.writing p) (λ j. m.others j p) (λ j. m.same j p) (apart p));
         fits = m.then_fits;
         reached = m.reached;
       }
     where
-      apart : (p j : ℕ) → j < bodies_of w → j ≢ k → marks j ≡ true → hits (effect w then_event k) p ≡ true → hits (effect w event j) p ≡ false
+      apart : (p j : ℕ) → j < bodies_of w → j ≢ k → written j p ≡ true → hits (effect w then_event k) p ≡ true → hits (effect w event j) p ≡ false
       apart p j l ne mark hit =
           effect_misses w ok event h.reached j p (ok.apart k j p m.body l (λ e. ne (sym e)) (m.may p (ap (λ (c : List Change). hits c p) (sym m.its) ∙ hit)))
 
@@ -86,14 +91,16 @@ module _ (w : Opening) (ok : Orderly w) (s : State) (t : Progress) (event : List
         counted = h.window.counted;
       }
 
-  -- the landing of the body at a place
-  landing_is : (i k : ℕ) → i ≡ w.from + k → landing_at s w.queue i u (copy_of w k) ≡ landing_on w s.memory k
+  -- the landing of what stands at a place
+  landing_is : (i k : ℕ) → i ≡ w.from + k → landing_at s w.queue i u (copy_of w k) ≡ landing w.regions (origin_of w k) s.memory (request_of w k)
   landing_is i k at =
-      ap (λ (rows : List Region). landing rows (record { chain = u.row.domain; queue = w.queue; index = i }) s.memory (request_of w k)) h.regions ∙ ap (λ (row : QueueRow). landing w.regions (record { chain = row.domain; queue = w.queue; index = i }) s.memory (request_of w k)) h.window.row ∙ ap (λ (n : ℕ). landing w.regions (record { chain = w.row.domain; queue = w.queue; index = n }) s.memory (request_of w k)) at
+      ap (λ (rows : List Region). landing rows (record { chain = u.row.domain; queue = w.queue; index = i }) s.memory (request_of w k)) h.regions
+      ∙ ap (λ (row : QueueRow). landing w.regions (record { chain = row.domain; queue = w.queue; index = i }) s.memory (request_of w k)) h.window.row
+      ∙ ap (λ (n : ℕ). landing w.regions (record { chain = w.row.domain; queue = w.queue; index = n }) s.memory (request_of w k)) at
 
   -- any body but the event's lands as it would have at the opening
-  pub plain_same : (k : ℕ) → k < bodies_of w → k ≢ w.event → landed done marks k ≡ false → landing_on w s.memory k ≡ planned w k
-  plain_same k body ne unlanded = sym (landing_same w.regions (origin_of w k) (request_of w k) w.memory s.memory same)
+  pub plain_same : (k : ℕ) → k < bodies_of w → k ≢ w.event → landed_in w t k ≡ false → landing_on w s.memory k ≡ planned w k
+  plain_same k body ne unlanded = sym (landing_same w.regions (origin_of w (place_of w k)) (body_of w k) w.memory s.memory same)
     where
       plain : Plain w k
       plain = ok.plain k body ne
@@ -104,29 +111,42 @@ module _ (w : Opening) (ok : Orderly w) (s : State) (t : Progress) (event : List
           let a : nat_le (planned w k).reads.at p ≡ true = grind (arith, nat_tests) in
           let b : nat_lt p ((planned w k).reads.at + (planned w k).reads.len) ≡ true = grind (arith, nat_tests) in
           let read : holds (planned w k).reads p ≡ true = and_from (nat_le (planned w k).reads.at p) (nat_lt p ((planned w k).reads.at + (planned w k).reads.len)) a b in
-          byte_stands w ok s.memory (landed done marks) event h.standing p (plain.reads_ours p read) (λ j l m. plain.reads_spared j p l (λ e. false≢true (sym unlanded ∙ ap (landed done marks) (sym e) ∙ m)) read)))
+          byte_stands w ok s.memory (written_in w t) event h.standing p (plain.reads_ours p read) (λ j l m. plain.reads_spared j p l (λ e. false≢true (sym unlanded ∙ ap (landed_in w t) (sym e) ∙ m)) read)))
 
   -- what a landing leaves, for any body
   module _ (i : ℕ) (f : Flying w done marks i) where
     abbrev place : ℕ
     place = done + f.nth
 
-    body : place < bodies_of w
-    body = h.window.moving f.nth f.inside
+    abbrev k : ℕ
+    k = past_gate w place
 
-    unlanded : landed done marks place ≡ false
-    unlanded = landed_mark done marks place f.nth refl ∙ f.unlanded
+    at_place : place_of w k ≡ place
+    at_place = place_past w place (h.window.moving f.nth f.inside).low
+
+    body : k < bodies_of w
+    body = body_past w place (h.window.moving f.nth f.inside)
+
+    -- other bodies stand at other places
+    elsewhere : (j : ℕ) → j ≢ k → place_of w j ≢ place
+    elsewhere j ne e = ne (sym (past_place w j) ∙ ap (past_gate w) e)
+
+    unlanded : landed_in w t k ≡ false
+    unlanded = landed_mark done marks (place_of w k) f.nth at_place ∙ f.unlanded
+
+    landing_here : landing_at s w.queue i u (copy_of w place) ≡ landing_on w s.memory k
+    landing_here = landing_is i place f.is ∙ ap (λ (n : ℕ). landing w.regions (origin_of w n) s.memory (request_of w n)) (sym at_place)
 
     found : flying_in i u.flights ≡ Some (flight w place false)
     found = ap (flying_in i) h.window.flights ∙ f.found
 
-    leaves : after s (Land w.queue i) ≡ land_leaves s w.queue i u (landing_on w s.memory place)
-    leaves = action.landed_is s w.queue u h.there i (flight w place false) found ∙ ap (land_leaves s w.queue i u) (landing_is i place f.is)
+    leaves : after s (Land w.queue i) ≡ land_leaves s w.queue i u (landing_on w s.memory k)
+    leaves = action.landed_is s w.queue u h.there i (flight w place false) found ∙ ap (land_leaves s w.queue i u) landing_here
 
-    shows_is : shown s (Land w.queue i) ≡ (landing_on w s.memory place).shown
-    shows_is = action.land_shows_is s w.queue u h.there i (flight w place false) found ∙ ap (λ (l : Landing). l.shown) (landing_is i place f.is)
+    shows_is : shown s (Land w.queue i) ≡ (landing_on w s.memory k).shown
+    shows_is = action.land_shows_is s w.queue u h.there i (flight w place false) found ∙ ap (λ (l : Landing). l.shown) landing_here
 
-    left_is : (l : Landing) → landing_on w s.memory place ≡ l → l.allowed ≡ true → after s (Land w.queue i) ≡ record s { memory = changed s.memory l.writes; queues = slice_set s.queues w.queue (landed_at u i) }
+    left_is : (l : Landing) → landing_on w s.memory k ≡ l → l.allowed ≡ true → after s (Land w.queue i) ≡ record s { memory = changed s.memory l.writes; queues = slice_set s.queues w.queue (landed_at u i) }
     left_is l is allowed = leaves ∙ ap (land_leaves s w.queue i u) is ∙ rw allowed refl
 
     -- the queue afterwards
@@ -139,68 +159,73 @@ module _ (w : Opening) (ok : Orderly w) (s : State) (t : Progress) (event : List
         let due = marks_due_set marks f.nth f.inside f.unlanded in
         rw long (omega (arith, due))
 
-    stage_left : (l : Landing) (then_event : List Change) → landing_on w s.memory place ≡ l → l.allowed ≡ true → OneMore w ok s.memory (landed_in t) (landed_in now) event then_event l.writes place → Stage w (after s (Land w.queue i)) now then_event
+    stage_left : (l : Landing) (then_event : List Change) → landing_on w s.memory k ≡ l → l.allowed ≡ true → OneMore w ok s.memory (written_in w t) (written_in w now) event then_event l.writes k
+        → Stage w (after s (Land w.queue i)) now then_event
     stage_left l then_event is allowed more =
         let left = left_is l is allowed in
         record {
           there = ap (λ (t : State). slice_get t.queues w.queue) left ∙ set_here s.queues w.queue u (landed_at u i) h.there;
           window = window_landed i f;
           regions = regions_stay s (Land w.queue i) ∙ h.regions;
-          standing = subst (λ (m : List ℕ). Standing w m (landed done (set marks f.nth true)) then_event) (sym (ap (λ (t : State). t.memory) left)) (standing_lands w ok s.memory (landed done marks) (landed done (set marks f.nth true)) event then_event l.writes place h.standing more);
+          standing = subst (λ (m : List ℕ). Standing w m (written_in w now) then_event) (sym (ap (λ (t : State). t.memory) left))
+              (standing_lands w ok s.memory (written_in w t) (written_in w now) event then_event l.writes k h.standing more);
+          waits = counts_stay s (after s (Land w.queue i)) (rows_stay s (Land w.queue i)) (λ c x there. (x, ap (λ (z : State). slice_get z.chains c) left ∙ there)) w h.waits;
           target = λ two. ap (row_may_raise w.row.domain) (rows_stay s (Land w.queue i) (enable_of w).first) ∙ h.target two;
         }
 
     -- a landing turns this queue alone
-    others_stay : (memory : List ℕ) → after s (Land w.queue i) ≡ record s { memory = memory; queues = slice_set s.queues w.queue (landed_at u i) } → (q : ℕ) → q ≢ w.queue → slice_get (after s (Land w.queue i)).queues q ≡ slice_get s.queues q
+    others_stay : (memory : List ℕ) → after s (Land w.queue i) ≡ record s { memory = memory; queues = slice_set s.queues w.queue (landed_at u i) } → (q : ℕ) → q ≢ w.queue
+        → slice_get (after s (Land w.queue i)).queues q ≡ slice_get s.queues q
     others_stay memory is q ne = ap (λ (z : State). slice_get z.queues q) is ∙ set_other s.queues w.queue q (landed_at u i) ne
 
     -- any body but the event's: it shows nothing and writes what it would have written at the opening
-    pub plain_lands : place ≢ w.event → Quiet w s t event (Land w.queue i)
+    pub plain_lands : k ≢ w.event → Quiet w s t event (Land w.queue i)
     plain_lands ne =
-        let plain = ok.plain place body ne in
-        let is = plain_same place body ne unlanded in
-        let left = left_is (planned w place) is plain.allowed in
-        let memory : (after s (Land w.queue i)).memory ≡ changed s.memory (planned w place).writes = ap (λ (t : State). t.memory) left in
-        let fits : Fits (length s.memory) (planned w place).writes = subst (λ n. Fits n (planned w place).writes) (sym h.standing.size) (writes_fit w ok w.memory place refl) in
+        let plain = ok.plain k body ne in
+        let is = plain_same k body ne unlanded in
+        let left = left_is (planned w k) is plain.allowed in
+        let memory : (after s (Land w.queue i)).memory ≡ changed s.memory (planned w k).writes = ap (λ (t : State). t.memory) left in
+        let fits : Fits (length s.memory) (planned w k).writes = subst (λ n. Fits n (planned w k).writes) (sym h.standing.size) (writes_fit w ok w.memory k refl) in
         record {
           now = now;
-          next = stage_left (planned w place) event is plain.allowed one_more;
+          next = stage_left (planned w k) event is plain.allowed one_more;
           silent = shows_is ∙ ap (λ (l : Landing). l.shown) is ∙ plain.silent;
-          same = λ inside. landed_other done marks w.event f.nth (λ e. ne (sym e));
+          begins = goes_past w ok s t event h;
+          same = λ inside. landed_other done marks (place_of w w.event) f.nth (elsewhere w.event (λ e. ne (sym e)));
           others = others_stay _ left;
           more = λ two l. l;
           spends = spends;
-          private = λ p theirs. ap (λ (m : List ℕ). byte m p) memory ∙ byte-changed s.memory (planned w place).writes p fits ∙ over_missed (planned w place).writes p (byte s.memory p) (misses p theirs);
+          private = λ p theirs. ap (λ (m : List ℕ). byte m p) memory ∙ byte-changed s.memory (planned w k).writes p fits ∙ over_missed (planned w k).writes p (byte s.memory p) (misses p theirs);
         }
       where
-        not_event : (place == w.event) ≡ false
-        not_event = ne_eqb place w.event ne
+        not_event : (k == w.event) ≡ false
+        not_event = ne_eqb k w.event ne
 
-        misses : (p : ℕ) → w.ours p ≡ false → hits (planned w place).writes p ≡ false
-        misses p theirs = false_from_ne_true (hits (planned w place).writes p) (λ hit. false≢true (sym theirs ∙ (ok.plain place body ne).writes_ours p (writes_may w ok w.memory place p hit)))
+        misses : (p : ℕ) → w.ours p ≡ false → hits (planned w k).writes p ≡ false
+        misses p theirs = false_from_ne_true (hits (planned w k).writes p) (λ hit. false≢true (sym theirs ∙ (ok.plain k body ne).writes_ours p (writes_may w ok w.memory k p hit)))
 
-        one_more : OneMore w ok s.memory (landed_in t) (landed_in now) event event (planned w place).writes place
+        one_more : OneMore w ok s.memory (written_in w t) (written_in w now) event event (planned w k).writes k
         one_more =
             record {
               body = body;
-              unlanded = unlanded;
-              lands = landed_lands done marks place f.nth f.inside refl;
-              others = λ j l apart. landed_other done marks j f.nth apart;
+              unwritten = λ p. unlanded;
+              writing = λ p. landed_lands done marks (place_of w k) f.nth f.inside at_place;
+              others = λ j p l apart. landed_other done marks (place_of w j) f.nth (elsewhere j apart);
               its = rw not_event refl;
-              same = λ j l m. refl;
-              fits = writes_fit w ok w.memory place refl;
+              same = λ j p l m. refl;
+              fits = writes_fit w ok w.memory k refl;
               then_fits = h.standing.fits;
-              may = λ p hit. writes_may w ok w.memory place p hit;
+              may = λ p hit. writes_may w ok w.memory k p hit;
               reached = h.standing.reached;
             }
 
     -- the event's body
-    module _ (at : place ≡ w.event) where
-      event_is : landing_on w s.memory place ≡ landing_on w s.memory w.event
+    module _ (at : k ≡ w.event) where
+      event_is : landing_on w s.memory k ≡ landing_on w s.memory w.event
       event_is = ap (landing_on w s.memory) at
 
-      event_unlanded : landed done marks w.event ≡ false
-      event_unlanded = ap (landed done marks) (sym at) ∙ unlanded
+      event_unlanded : landed_in w t w.event ≡ false
+      event_unlanded = ap (landed_in w t) (sym at) ∙ unlanded
 
       event_inside : w.event < bodies_of w
       event_inside = subst (λ k. k < bodies_of w) at body
@@ -213,7 +238,7 @@ module _ (w : Opening) (ok : Orderly w) (s : State) (t : Progress) (event : List
           let left = left_is (landing_on w s.memory w.event) event_is allowed in
           record {
             now = now;
-            lands = landed_lands done marks w.event f.nth f.inside (sym at);
+            lands = landed_lands done marks (place_of w w.event) f.nth f.inside (ap (place_of w) (sym at) ∙ at_place);
             agrees = agrees;
             inside = event_inside;
             unlanded = event_unlanded;
@@ -226,18 +251,18 @@ module _ (w : Opening) (ok : Orderly w) (s : State) (t : Progress) (event : List
             spends = spends;
           }
         where
-          its_event : (place == w.event) ≡ true
-          its_event = eq-eqb place w.event at
+          its_event : (k == w.event) ≡ true
+          its_event = eq-eqb k w.event at
 
-          one_more : OneMore w ok s.memory (landed_in t) (landed_in now) event (landing_on w s.memory w.event).writes (landing_on w s.memory w.event).writes place
+          one_more : OneMore w ok s.memory (written_in w t) (written_in w now) event (landing_on w s.memory w.event).writes (landing_on w s.memory w.event).writes k
           one_more =
               record {
                 body = body;
-                unlanded = unlanded;
-                lands = landed_lands done marks place f.nth f.inside refl;
-                others = λ j l apart. landed_other done marks j f.nth apart;
+                unwritten = λ p. unlanded;
+                writing = λ p. landed_lands done marks (place_of w k) f.nth f.inside at_place;
+                others = λ j p l apart. landed_other done marks (place_of w j) f.nth (elsewhere j apart);
                 its = rw its_event refl;
-                same = λ j l m. let other : (j == w.event) ≡ false = ne_eqb j w.event (λ e. false≢true (sym event_unlanded ∙ ap (landed done marks) (sym e) ∙ m)) in rw other refl;
+                same = λ j p l m. let other : (j == w.event) ≡ false = ne_eqb j w.event (λ e. false≢true (sym event_unlanded ∙ ap (landed_in w t) (sym e) ∙ m)) in rw other refl;
                 fits = writes_fit w ok s.memory w.event h.standing.size;
                 then_fits = writes_fit w ok s.memory w.event h.standing.size;
                 may = λ p hit. ap (λ n. may_write w n p) at ∙ writes_may w ok s.memory w.event p hit;
@@ -246,7 +271,7 @@ module _ (w : Opening) (ok : Orderly w) (s : State) (t : Progress) (event : List
 
       pub event_faults : (landing_on w s.memory w.event).allowed ≡ false → Faulting w s t event (Land w.queue i)
       event_faults no_access =
-          let none : (landing_on w s.memory w.event).writes ≡ [] = refused_writes w.regions (origin_of w w.event) (request_of w w.event) s.memory no_access in
+          let none : (landing_on w s.memory w.event).writes ≡ [] = refused_writes w.regions (origin_of w (place_of w w.event)) (body_of w w.event) s.memory no_access in
           record {
             agrees = agrees;
             inside = event_inside;

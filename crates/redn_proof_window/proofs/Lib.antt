@@ -2,6 +2,8 @@ pub mod Below
 pub mod Marks
 pub mod Orders
 pub mod Missed
+pub mod Places
+pub mod Counters
 pub mod Windows
 pub mod Stages
 pub mod Turns
@@ -18,3 +20,6 @@ pub mod Raised
 pub mod GateQueues
 pub mod Sound
 mod WorkedWindow
+mod WorkedGate
+mod WorkedEnding
+mod WorkedValue

@@ -1,20 +1,21 @@
 -- A window whose private bytes are some ranges is orderly where tests of ranges say so.
-use Rattle.std.proofs.Common.{◌≡◌, ◌≢◌, ℕ, ◌+◌, ◌%◌, ◌<◌, ◌≤◌, ◌⊎◌, true, List, [], ◌∷◌, length, ◌∙◌}
+use Rattle.std.proofs.Common.{◌≡◌, ◌≢◌, ℕ, ◌+◌, ◌%◌, ◌<◌, ◌≤◌, true, List, [], ◌∷◌, Some, length, ◌∙◌}
 use Rattle.redn_words.specs.Steps.{class_of}
 use Rattle.redn_words.specs.declared.types.Class.TheVariants as ask
 use Rattle.redn_words.specs.declared.types.Obs.TheVariants as shows
 use Rattle.redn_words.specs.Words.{bytes_at}
+use Rattle.redn_words.specs.Requests.{decoded}
 use Rattle.redn_words.specs.Landings.{Place}
 use Rattle.redn_words.specs.Access.{EndsBy}
 use Rattle.redn_words.specs.Footprints.{footprint}
 use Rattle.redn_words.specs.Ranges.{within, all_apart, all_inside}
 use Rattle.redn_words.proofs.Ranges.{within_apart, within_inside, bounds_hold, one_within}
-use Rattle.redn_proof_window.specs.Windows.{Opening, bodies_of, slots_of, copy_of, request_of, planned, slot_at}
-use Rattle.redn_proof_window.specs.Stages.{Plain, Gated, Orderly}
+use Rattle.redn_proof_window.specs.Windows.{Opening, bodies_of, slots_of, copy_of, body_of, planned, slot_at}
+use Rattle.redn_proof_window.specs.Stages.{Plain, IsEnding, Orderly}
 
 module _ (w : Opening) (private : List Place) where
   abbrev pub writes_of : ℕ → List Place
-  writes_of k = footprint w.regions w.row.domain (request_of w k)
+  writes_of k = footprint w.regions w.row.domain (body_of w k)
 
   abbrev pub reads_of : ℕ → List Place
   reads_of k = (planned w k).reads ∷ []
@@ -33,9 +34,10 @@ module _ (w : Opening) (private : List Place) where
     pub private_is : (p : ℕ) → w.ours p ≡ within private p
     pub numbered : w.queue < 65536
     pub room : slots_of w ≤ w.row.slots
-    pub flying : (k : ℕ) → k < bodies_of w → class_of (request_of w k) ≡ ask.Flies
-    pub last : (k : ℕ) → k + 1 ≡ bodies_of w → (request_of w k).flags % 2 ≡ 1
-    pub gates : (length w.gates ≡ 0) ⊎ Gated w
+    pub first : (copy : List ℕ) → w.first_gate ≡ Some copy → class_of (decoded copy) ≡ ask.Passes
+    pub flying : (k : ℕ) → k < bodies_of w → class_of (body_of w k) ≡ ask.Flies
+    pub last : (k : ℕ) → k + 1 ≡ bodies_of w → (body_of w k).flags % 2 ≡ 1
+    pub gates : IsEnding w w.ending
     pub slots_stand : (k : ℕ) → k < slots_of w → bytes_at w.memory (slot_at w k) 64 ≡ copy_of w k
     pub slots_inside : (k : ℕ) → k < slots_of w → all_inside (slot_of k) private ≡ true
     pub slots_apart : (k j : ℕ) → k < slots_of w → j < bodies_of w → all_apart (slot_of k) (writes_of j) ≡ true
@@ -51,6 +53,7 @@ module _ (w : Opening) (private : List Place) where
       record {
         numbered = h.numbered;
         room = h.room;
+        first = h.first;
         flying = h.flying;
         last = h.last;
         gates = h.gates;

@@ -8,8 +8,9 @@ use Rattle.redn_words.specs.declared.types.Action.TheVariants.{Deliver, Fetch, S
 use Rattle.redn_words.specs.States.{Queue, State}
 use Rattle.redn_words.specs.Steps.{possible, flying_in, acts_on}
 use Rattle.redn_words.proofs.Actions as action
-use Rattle.redn_proof_window.specs.Windows.{Opening, Window, bodies_of, slots_of, flights_from, signals}
+use Rattle.redn_proof_window.specs.Windows.{Opening, Window, bodies_of, past_gate, slots_of, flights_from, signals}
 use Rattle.redn_proof_window.specs.Moves.{AtRest}
+use Rattle.redn_proof_window.proofs.Places.{place_is, past_is}
 use Rattle.redn_proof_window.proofs.Windows.{signals_past}
 
 pub rest_like : {r z : QueueRow} {a b c d : ℕ} {u : Queue} → AtRest r a c u → z ≡ r → b ≡ a → d ≡ c → AtRest z b d u
@@ -70,7 +71,7 @@ module _ (w : Opening) where
         limit = h.limit;
         flights = h.flights ∙ ap (flights_from w done) (none marks empty);
         held = λ i. by_held i (get u.held i) refl;
-        counted = h.counted ∙ ap (λ n. w.counter + n) (signals_past w done (omega arith));
+        counted = h.counted ∙ ap (λ n. w.counter + n) (signals_past w (past_gate w done) (let past = past_is w done in let slots = place_is w (bodies_of w + length w.gates) in omega (arith, all, past, slots)));
       }
     where
       empty : length marks ≡ 0

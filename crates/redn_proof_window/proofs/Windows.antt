@@ -8,7 +8,8 @@ use Rattle.std.proofs.lemmas.List.Sums.{sum_by_more}
 use Rattle.redn_words.specs.declared.types.Flight.{Flight}
 use Rattle.redn_words.specs.Requests.{decoded}
 use Rattle.redn_words.specs.Steps.{flying_in, with_landed}
-use Rattle.redn_proof_window.specs.Windows.{Opening, bodies_of, copy_of, request_of, signals, flight, flights_from}
+use Rattle.redn_proof_window.specs.Windows.{Opening, bodies_of, place_of, copy_of, body_of, signals, flight, flights_from}
+use Rattle.redn_proof_window.proofs.Places.{copy_behind}
 
 module _ (w : Opening) where
   pub flights_push : (k n : ℕ) (marks : List Bool) → n ≡ k + length marks → flights_from w k (marks ++ false ∷ []) ≡ flights_from w k marks ++ flight w n false ∷ []
@@ -67,9 +68,9 @@ module _ (w : Opening) where
   oldest_flies k marks = let same : eqb (w.from + k) (w.from + k) ≡ true = grind (arith, nat_tests) in rw same refl
 
   -- signals
-  pub signals_more : (n : ℕ) → n < bodies_of w → signals w (n + 1) ≡ signals w n + (request_of w n).flags % 2
+  pub signals_more : (n : ℕ) → n < bodies_of w → signals w (n + 1) ≡ signals w n + (body_of w n).flags % 2
   signals_more n l =
-      let its : get_or w.bodies n [] ≡ copy_of w n = sym (get_or_append_left w.bodies w.gates [] n l) in
+      let its : get_or w.bodies n [] ≡ copy_of w (place_of w n) = sym (copy_behind w n ∙ get_or_append_left w.bodies w.gates [] n l) in
       sum_by_more (λ (copy : List ℕ). (decoded copy).flags % 2) w.bodies n [] l ∙ ap (λ (copy : List ℕ). signals w n + (decoded copy).flags % 2) its
 
   pub signals_past : (n : ℕ) → bodies_of w ≤ n → signals w n ≡ signals w (bodies_of w)
@@ -89,7 +90,7 @@ module _ (w : Opening) where
       rw e (omega (arith, signals_mono a k, signals_step (a + k)))
 
   -- where the last body is signalled, all signals have come only once all bodies have completed
-  pub all_signals : ((k : ℕ) → k + 1 ≡ bodies_of w → (request_of w k).flags % 2 ≡ 1) → (n : ℕ) → signals w (bodies_of w) ≤ signals w n → bodies_of w ≤ n
+  pub all_signals : ((k : ℕ) → k + 1 ≡ bodies_of w → (body_of w k).flags % 2 ≡ 1) → (n : ℕ) → signals w (bodies_of w) ≤ signals w n → bodies_of w ≤ n
   all_signals last n h =
       elim (cases_lt n (bodies_of w)) as (λ c. bodies_of w ≤ n) [
         | inr past ↦ past

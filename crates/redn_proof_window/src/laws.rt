@@ -2,7 +2,8 @@
 //! acts in between. A call of one does nothing.
 
 ghost use Rattle.redn_proof_window.specs.Scripts.{Script, IsScript};
-ghost use Rattle.redn_proof_window.specs.WindowLaws.{WindowsOpen, WindowsMove, WindowsStay, WindowsGoOn, WindowsEnd, GatesMove, GatesGoOn, ChainsMove, ChainsStay, ChainsLeft, ChainsBegin, ChainsGoOn};
+ghost use Rattle.redn_proof_window.specs.WindowLaws.{WindowsOpen, WindowsMove, WindowsStay, WindowsGoOn, WindowsEnd, WindowsCount, GatesMove, GatesGoOn};
+ghost use Rattle.redn_proof_window.specs.WindowLaws.{ChainsMove, ChainsStay, ChainsLeft, ChainsBegin, ChainsFollow, ChainsGoOn};
 
 /// A window keeps its private bytes as if its requests landed in the order of their slots.
 pub fn a_window_in_any_order()
@@ -11,6 +12,7 @@ pub fn a_window_in_any_order()
     ensures stays { WindowsStay }
     ensures goes_on { WindowsGoOn }
     ensures ends { WindowsEnd }
+    ensures counts { WindowsCount }
 {}
 
 /// A queue of WAITs and ENABLEs alone, as a chain's entry, passes them one after the other.
@@ -32,5 +34,6 @@ pub fn a_chain_in_any_order<S: Scripted>()
     ensures stays { ChainsStay S.script }
     ensures left { ChainsLeft S.script }
     ensures begins { ChainsBegin S.script }
+    ensures follows { ChainsFollow S.script S.kept }
     ensures goes_on { ChainsGoOn S.script }
 {}

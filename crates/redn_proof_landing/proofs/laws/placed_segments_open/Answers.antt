@@ -1,12 +1,11 @@
-use Rattle.std.proofs.Common.{◌+◌, inl, inr, length, ◌∙◌}
-use Rattle.redn_proof_landing.proofs.Segments.{segment_orderly, length-copies}
+use Rattle.redn_proof_landing.proofs.Segments.{segment_orderly}
 use Rattle.redn_proof_landing.proofs.Showing.{window_shows}
 use Rattle.redn_proof_landing.proofs.laws.placed_segments_open.Goals as goal
 
 pub returns-clause-orderly : goal.returns-clause-orderly
 returns-clause-orderly c =
     λ home mine regions ring row ours g lap counter m o.
-    segment_orderly home mine regions ring row ours o.lie g lap counter m o.apart o.through o.spaces o.room o.ours_are o.numbered o.last (elim o.gates [ inl none ↦ inl (length-copies home ring m (g.first + length g.drafts) g.gates ∙ none) | inr gated ↦ inr gated ]) o.ends
+    segment_orderly home mine regions ring row ours o.lie g lap counter m o.apart o.through o.spaces o.room o.ours_are o.numbered o.last o.gates o.ends
 
 pub returns-clause-shows : goal.returns-clause-shows
 returns-clause-shows c =

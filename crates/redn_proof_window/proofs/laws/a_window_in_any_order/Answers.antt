@@ -1,4 +1,4 @@
-use Rattle.redn_proof_window.proofs.Moves.{moves, same_stage, goes_on}
+use Rattle.redn_proof_window.proofs.Moves.{moves, same_stage, goes_on, count_tells}
 use Rattle.redn_proof_window.proofs.Ends.{opens, first_budget, ends, in_order_writes}
 use Rattle.redn_proof_window.proofs.laws.a_window_in_any_order.Goals as goal
 
@@ -13,6 +13,9 @@ returns-clause-stays c = λ w ok s r t event h same. same_stage w ok s t event h
 
 pub returns-clause-goes_on : goal.returns-clause-goes_on
 returns-clause-goes_on c = goes_on
+
+pub returns-clause-counts : goal.returns-clause-counts
+returns-clause-counts c = count_tells
 
 pub returns-clause-ends : goal.returns-clause-ends
 returns-clause-ends c = λ w ok s t event h all.
