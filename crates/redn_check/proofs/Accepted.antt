@@ -16,7 +16,7 @@ use Rattle.redn_check.specs.declared.fault.Fault.{Fault}
 use Rattle.redn_check.specs.Faults.{fault, when}
 use Rattle.redn_check.specs.Statements.{with_earlier, each_of}
 use Rattle.redn_check.specs.Names.{table_names, chain_names, variables}
-use Rattle.redn_check.specs.Rules.{twice, one_too_many, number_faults, statement_faults, control_faults, chain_faults, bad_length, bad_items, table_faults, too_heavy, weights, Accepts}
+use Rattle.redn_check.specs.Rules.{twice, one_too_many, number_faults, statement_faults, control_faults, chain_faults, bad_serve, bad_length, bad_items, table_faults, too_heavy, weights, Accepts}
 use Rattle.redn_check.proofs.Nothing.{nil_left, nil_right, when_none}
 use Rattle.redn_check.proofs.Behind.{with_earlier-append, behind_one, behind_all, split_at}
 
@@ -104,23 +104,29 @@ module _ (tables : List Table) (c : Chain) (none : chain_faults tables c ≡ [])
   pub controlled : control_faults c ≡ []
   controlled = nil_right _ (control_faults c) none
 
-  rest : twice (variables c) ++ one_too_many 10 8 (map (λ (n : Name). n.at) c.args) ++ one_too_many 11 256 (map (λ (n : Name). n.at) (variables c)) ++ flat_map own (each_of c.body) ≡ []
+  rest : twice (variables c) ++ one_too_many 10 8 (map (λ (n : Name). n.at) c.args) ++ one_too_many 11 256 (map (λ (n : Name). n.at) (variables c)) ++ bad_serve c ++ flat_map own (each_of c.body) ≡ []
   rest = nil_left _ (control_faults c) none
 
   pub good_statements : flat_map own (each_of c.body) ≡ []
   good_statements = nil_right _ (flat_map own (each_of c.body)) rest
 
+  front_of_rest : twice (variables c) ++ one_too_many 10 8 (map (λ (n : Name). n.at) c.args) ++ one_too_many 11 256 (map (λ (n : Name). n.at) (variables c)) ++ bad_serve c ≡ []
+  front_of_rest = nil_left _ (flat_map own (each_of c.body)) rest
+
+  pub good_serve : bad_serve c ≡ []
+  good_serve = nil_right _ (bad_serve c) front_of_rest
+
   pub few_variables : length (variables c) ≤ 256
   few_variables =
       let places = map (λ (n : Name). n.at) (variables c) in
-      let most = few 11 256 places (nil_right _ (one_too_many 11 256 places) (nil_left _ (flat_map own (each_of c.body)) rest)) in
+      let most = few 11 256 places (nil_right _ (one_too_many 11 256 places) (nil_left _ (bad_serve c) front_of_rest)) in
       let size = length-map (variables c) (λ (n : Name). n.at) in
       omega arith
 
   pub few_arguments : length c.args ≤ 8
   few_arguments =
       let places = map (λ (n : Name). n.at) c.args in
-      let most = few 10 8 places (nil_right (twice (variables c)) _ (nil_left _ (one_too_many 11 256 (map (λ (n : Name). n.at) (variables c))) (nil_left _ (flat_map own (each_of c.body)) rest))) in
+      let most = few 10 8 places (nil_right (twice (variables c)) _ (nil_left _ (one_too_many 11 256 (map (λ (n : Name). n.at) (variables c))) (nil_left _ (bad_serve c) front_of_rest))) in
       let size = length-map c.args (λ (n : Name). n.at) in
       omega arith
 

@@ -25,11 +25,6 @@ slice_get_right (x ∷ xs) ys (suc k) h =
     let same : k - length xs ≡ suc k - suc (length xs) = omega arith in
     slice_get_right xs ys k (omega arith) ∙ ap (slice_get ys) same
 
-pub slice_get_left : {X : Type 0} (xs ys : List X) (k : ℕ) → k < length xs → slice_get (xs ++ ys) k ≡ slice_get xs k
-slice_get_left [] ys k h = absurd (omega arith)
-slice_get_left (x ∷ xs) ys zero h = refl
-slice_get_left (x ∷ xs) ys (suc k) h = slice_get_left xs ys k (omega arith)
-
 module _ {X : Type 0} where
   abbrev pub behind_one : X → List X × X → List X × X
   behind_one x e = (x ∷ e.0, e.1)

@@ -42,9 +42,6 @@ module _ (P : Stmt → Type 0) (of_inner : (s : Stmt) → Each P (inner (out-Stm
 
 -- ---- a statement and those in its blocks
 
-abbrev Pairs : Type 0
-Pairs = StmtKind-F (StmtKind × List Stmt) (Stmt × List Stmt)
-
 abbrev unfolded_kind : StmtKind → StmtKind × List Stmt
 unfolded_kind = fold-StmtKind (StmtKind × List Stmt) (Stmt × List Stmt) unfold_by (λ s. with_statement s.at s.kind)
 

@@ -1,11 +1,14 @@
 -- The program's statement of each statement, and where no number is out of its range.
 use Rattle.std.proofs.Common.{◌≡◌, ℕ, ◌+◌, ◌<◌, ◌≤◌, Bool, false, ◌||◌, ltb, List, [], ◌∷◌, length, map, take, drop, get_or, refl, sym, ap, ◌∙◌, arith}
 use Rattle.std.specs.List.{flat_map}
+use Rattle.std.specs.Prelude.{Option, Some, None}
+use Rattle.std.specs.Option.{option_map_or}
 use Rattle.std.proofs.lemmas.Bool.Decides.{nat_tests}
 use Rattle.std.proofs.lemmas.List.Concat.{flat_map-append}
 use Rattle.redn_syntax.specs.declared.tree.Name.{Name}
 use Rattle.redn_syntax.specs.declared.tree.Num.{Num}
 use Rattle.redn_syntax.specs.declared.tree.Operand.{Operand}
+use Rattle.redn_syntax.specs.declared.tree.Chain.{Chain}
 use Rattle.redn_syntax.specs.declared.tree.Stmt.{Stmt, fold_out-Stmt}
 use Rattle.redn_syntax.specs.declared.tree.StmtKind.{StmtKind, map-StmtKind, fold-StmtKind, fold_out-StmtKind}
 use Rattle.redn_syntax.specs.declared.tree.StmtKind.TheOpen.{StmtKind-F}
@@ -14,8 +17,8 @@ use Rattle.redn_kernel.specs.declared.types.Kernel.TheVariants as k
 use Rattle.redn_check.specs.declared.fault.Fault.{Fault}
 use Rattle.redn_check.specs.Faults.{fault}
 use Rattle.redn_check.specs.Statements.{layer_of, with_inner, inner, each_of}
-use Rattle.redn_check.specs.Rules.{outside, out_of_range, number_faults}
-use Rattle.redn_check.specs.Numbering.{number_of, word_of, kernel_by, kernel_of}
+use Rattle.redn_check.specs.Rules.{outside, out_of_range, number_faults, bad_serve, most_served}
+use Rattle.redn_check.specs.Numbering.{number_of, word_of, kernel_by, kernel_of, served}
 use Rattle.redn_check.proofs.Gathered.{in_body, in_body-append, in_statement, in_block, in_blocks}
 use Rattle.redn_check.proofs.Behind.{split_at}
 use Rattle.redn_check.proofs.Nothing.{nil_left, nil_right, when_none}
@@ -107,9 +110,9 @@ none_at g body i s h e none =
     let rest = nil_right (in_body g (take i body)) _ whole in
     nil_left (flat_map g (with_inner s)) (in_body g (drop (i + 1) body)) (sym (flat_map-append g (with_inner s) (each_of (drop (i + 1) body))) ∙ rest)
 
-module _ (least most : ℕ) (n : Num) (e : outside least most n ≡ []) where
+module _ (rule least most : ℕ) (n : Num) (e : outside rule least most n ≡ []) where
   inside : (ltb n.value least || ltb most n.value) ≡ false
-  inside = when_none _ (fault 13 n.at n.value) e
+  inside = when_none _ (fault rule n.at n.value) e
 
   pub outside_most : n.value ≤ most
   outside_most = let h = inside in grind (arith, nat_tests)
@@ -117,15 +120,23 @@ module _ (least most : ℕ) (n : Num) (e : outside least most n ≡ []) where
   pub outside_least : least ≤ n.value
   outside_least = let h = inside in grind (arith, nat_tests)
 
+-- a chain that keeps its rule serves one message
+pub serves_one : (c : Chain) → bad_serve c ≡ [] → served c ≡ 1
+serves_one c e = by c.serve e
+  where
+    by : (o : Option Num) → option_map_or (outside 15 1 most_served) o [] ≡ [] → option_map_or (λ (n : Num). n.value) o 1 ≡ 1
+    by None none = refl
+    by (Some n) none = let low = outside_least 15 1 1 n none in let high = outside_most 15 1 1 n none in omega arith
+
 module _ (s : Stmt) (none : flat_map number_faults (with_inner s) ≡ []) where
   own_none : (layer : StmtKind-F StmtKind Stmt) → layer_of s ≡ layer → out_of_range layer ≡ []
   own_none layer e = ap out_of_range (sym e) ∙ none_own number_faults s none
 
   pub count_fits : (count : Num) (body : List Stmt) → layer_of s ≡ StmtKind-F.Repeat count body → count.value ≤ 4294967295
-  count_fits count body e = outside_most 1 4294967295 count (own_none _ e)
+  count_fits count body e = outside_most 13 1 4294967295 count (own_none _ e)
 
   pub probes_fit : (to table : Name) (offset key : Operand) (probes : Num) → layer_of s ≡ StmtKind-F.Lookup to table offset key probes → probes.value ≤ 4
-  probes_fit to table offset key probes e = outside_most 1 4 probes (own_none _ e)
+  probes_fit to table offset key probes e = outside_most 13 1 4 probes (own_none _ e)
 
   pub nodes_fit : (to table : Name) (offset key : Operand) (nodes : Num) → layer_of s ≡ StmtKind-F.Walk to table offset key nodes → nodes.value ≤ 65535
-  nodes_fit to table offset key nodes e = outside_most 1 65535 nodes (own_none _ e)
+  nodes_fit to table offset key nodes e = outside_most 13 1 65535 nodes (own_none _ e)

@@ -23,18 +23,19 @@ use Rattle.redn_kernel.specs.declared.types.Kernel.{every-Kernel}
 use Rattle.redn_kernel.specs.declared.types.TableInit.{TableInit}
 use Rattle.redn_kernel.specs.declared.types.Program.{Program}
 use Rattle.redn_kernel.specs.declared.types.ChainInit.{ChainInit}
-use Rattle.redn_kernel.specs.Program.{AreBytes, AreWords, IsSound, IsSoundChain, IsSoundTable, IsSoundStatement, all_fall, chain_weight}
+use Rattle.redn_kernel.specs.Program.{AreBytes, AreWords, IsSound, IsSoundChain, IsSoundTable, IsSoundStatement, ServesOne, all_fall, chain_weight}
 use Rattle.redn_check.specs.Faults.{fault, when}
 use Rattle.redn_check.specs.Names.{table_names, variables, variable_names}
 use Rattle.redn_check.specs.Statements.{with_earlier, each_of}
 use Rattle.redn_check.specs.Rules.{passes, lengths, bad_items, offset_behind, end_of, table_faults, chain_faults, loose_breaks, open_end, unreached, flow_faults, control_faults, Weight, weight_at, weights, weight_of_all, too_heavy, Accepts}
-use Rattle.redn_check.specs.Numbering.{kernel_of, placed, written, table_bytes, table_init, first_value, first_values, chain_init, program_of}
+use Rattle.redn_check.specs.Numbering.{kernel_of, placed, written, table_bytes, table_init, first_value, first_values, served, chain_init, program_of}
 use Rattle.redn_check.proofs.Nothing.{nil_left, nil_right, when_none}
 use Rattle.redn_check.proofs.Inner.{Each}
 use Rattle.redn_check.proofs.Behind.{fits_here}
 use Rattle.redn_check.proofs.Written.{placed_push}
-use Rattle.redn_check.proofs.Accepted.{blank, none_behind, placed_items, good_length, few_tables, good_tables, good_chains, few_chains, light, controlled, good_statements, few_variables, few_arguments}
+use Rattle.redn_check.proofs.Accepted.{blank, none_behind, placed_items, good_length, few_tables, good_tables, good_chains, few_chains, light, controlled, good_statements, few_variables, good_serve, few_arguments}
 use Rattle.redn_check.proofs.Carried.{same_exits_all, same_weights}
+use Rattle.redn_check.proofs.Numbered.{serves_one}
 use Rattle.redn_check.proofs.Weighed.{in_body}
 use Rattle.redn_check.proofs.SoundFlow.{is_reached, has_no_break}
 use Rattle.redn_check.proofs.SoundStatements.{Fine, statements_sound}
@@ -186,7 +187,10 @@ module _ (tables : List Table) (c : Chain) (none : chain_faults tables c ≡ [])
       let fit = few_variables tables c none in
       let values = length-append (replicate (length c.args) 0) (map first_value c.vars) in
       let zeros : length (replicate {A = ℕ} (length c.args) 0) ≡ length c.args = length-replicate (length c.args) 0 in
+      let one = serves_one c (good_serve tables c none) in
       record {
+        serves = omega (arith, one);
+        serves_few = omega (arith, one);
         arguments = few_arguments tables c none;
         arguments_first = omega arith;
         arguments_fresh = take_at (replicate (length c.args) 0) (map first_value c.vars) (length c.args) zeros;
@@ -258,7 +262,20 @@ sound f w accepted words =
       light = subst (λ n. n ≤ 4096) (sym (chains_weigh f.tables f.chains)) heaviest;
     }
 
+chains_serve_one : (tables : List Table) (chains : List Chain) → flat_map (chain_faults tables) chains ≡ [] → Each (λ c. served c ≡ 1) chains
+chains_serve_one tables [] none = tt
+chains_serve_one tables (c ∷ chains) none =
+    (serves_one c (good_serve tables c (nil_left (chain_faults tables c) (flat_map (chain_faults tables) chains) none)), chains_serve_one tables chains (nil_right (chain_faults tables c) _ none))
+
+-- the chains of an accepted file serve one message each
+pub all_serve_one : (f : File) → Accepts f → ServesOne (program_of f)
+all_serve_one f accepted = all_mapped (λ (c : ChainInit). c.serve ≡ 1) (chain_init f.tables) f.chains (chains_serve_one f.tables f.chains (good_chains f accepted))
+
 -- an answer that is the program of an accepted file
 pub sound_answer : (f : File) → IsWritable f → {E : Type 0} (r : Result Program E) → IfOk r (λ p. Accepts f) → IfOk r (λ p. p ≡ program_of f) → IfOk r (λ p. All (λ (c : ChainInit). AreWords c.vars) p.chains) → IfOk r (λ p. IsSound p)
 sound_answer f w (Ok p) accepted same words = subst IsSound (sym same) (sound f w accepted (subst (λ (p : Program). All (λ (c : ChainInit). AreWords c.vars) p.chains) same words))
 sound_answer f w (Err e) accepted same words = tt
+
+pub one_answer : (f : File) → {E : Type 0} (r : Result Program E) → IfOk r (λ p. Accepts f) → IfOk r (λ p. p ≡ program_of f) → IfOk r ServesOne
+one_answer f (Ok p) accepted same = subst ServesOne (sym same) (all_serve_one f accepted)
+one_answer f (Err e) accepted same = tt

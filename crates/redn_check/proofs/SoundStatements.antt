@@ -190,17 +190,17 @@ module _ (tables : List Table) (names : List Name) where
       let n = count.value in
       subst Sound (sym (kernel_repeat T names s count body e))
       (every_of Q _ (Kernel-F.Repeat n (map K body)) (Kernel-F.Repeat n (pairs body held)) (k.outs-Repeat _ _) (ap (Kernel-F.Repeat n) (pairs_are body held))
-      (outside_least 1 4294967295 count f.numbers, outside_most 1 4294967295 count f.numbers, here))
+      (outside_least 13 1 4294967295 count f.numbers, outside_most 13 1 4294967295 count f.numbers, here))
   sound_at s StmtKind-F.Break e h f = subst Sound (sym (kernel_break T names s e)) (every_of Q _ Kernel-F.Break Kernel-F.Break k.outs-Break refl tt)
   sound_at s (StmtKind-F.Lookup to table offset key probes) e h f =
       let layer : Kernel-F Kernel = Kernel-F.Lookup (number_of names to) (number_of T table) (word_of names offset) (word_of names key) probes.value in
       let held : Kernel-F Held = Kernel-F.Lookup (number_of names to) (number_of T table) (word_of names offset) (word_of names key) probes.value in
-      let fact : Q layer = (search_sound to table offset key f.variables f.used_tables f.targets, outside_least 1 4 probes f.numbers, outside_most 1 4 probes f.numbers) in
+      let fact : Q layer = (search_sound to table offset key f.variables f.used_tables f.targets, outside_least 13 1 4 probes f.numbers, outside_most 13 1 4 probes f.numbers) in
       subst Sound (sym (kernel_lookup T names s to table offset key probes e)) (every_of Q _ layer held (k.outs-Lookup _ _ _ _ _) refl fact)
   sound_at s (StmtKind-F.Walk to table offset key nodes) e h f =
       let layer : Kernel-F Kernel = Kernel-F.Walk (number_of names to) (number_of T table) (word_of names offset) (word_of names key) nodes.value in
       let held : Kernel-F Held = Kernel-F.Walk (number_of names to) (number_of T table) (word_of names offset) (word_of names key) nodes.value in
-      let fact : Q layer = (search_sound to table offset key f.variables f.used_tables f.targets, outside_least 1 65535 nodes f.numbers, outside_most 1 65535 nodes f.numbers) in
+      let fact : Q layer = (search_sound to table offset key f.variables f.used_tables f.targets, outside_least 13 1 65535 nodes f.numbers, outside_most 13 1 65535 nodes f.numbers) in
       subst Sound (sym (kernel_walk T names s to table offset key nodes e)) (every_of Q _ layer held (k.outs-Walk _ _ _ _ _) refl fact)
   sound_at s (StmtKind-F.Reply words) e h f =
       let layer : Kernel-F Kernel = Kernel-F.Reply (map (word_of names) words) in

@@ -24,6 +24,7 @@ reply = stmt 70 (k.Reply (named (codes "x") 76 ∷ numbered 5 79 ∷ []))
 abbrev chain : Chain
 chain = record {
   name = name (codes "c") 38;
+  serve = None;
   args = name (codes "k") 46 ∷ [];
   vars = record { name = name (codes "x") 53; first = Some (number 7 57) } ∷ [];
   body = load ∷ reply ∷ [];
@@ -44,7 +45,7 @@ its_program :
     program_of file
     ≡ record {
       tables = record { bytes = 0 ∷ 0 ∷ 0 ∷ 0 ∷ 0 ∷ 0 ∷ 0 ∷ 0 ∷ 0 ∷ 0 ∷ 0 ∷ 0 ∷ 0 ∷ 0 ∷ 1 ∷ 2 ∷ 0 ∷ 0 ∷ 0 ∷ 0 ∷ 0 ∷ 0 ∷ 0 ∷ 3 ∷ []; writable = false } ∷ [];
-      chains = record { args = 1; vars = 0 ∷ 7 ∷ []; body = kernel.Load 1 0 (Var 0) ∷ kernel.Reply (Var 1 ∷ Num 5 ∷ []) ∷ [] } ∷ [];
+      chains = record { serve = 1; args = 1; vars = 0 ∷ 7 ∷ []; body = kernel.Load 1 0 (Var 0) ∷ kernel.Reply (Var 1 ∷ Num 5 ∷ []) ∷ [] } ∷ [];
     }
 unfolding spelled
 its_program =

@@ -1,5 +1,5 @@
 -- Each rule once, kept and broken, computed.
-use Rattle.std.proofs.Common.{◌≡◌, ℕ, Bool, true, false, List, [], ◌∷◌, ◌++◌, Some, None, codes, replicate, refl}
+use Rattle.std.proofs.Common.{◌≡◌, ℕ, Bool, true, false, List, [], ◌∷◌, ◌++◌, Option, Some, None, codes, replicate, refl}
 use Rattle.std.specs.List.{range_with_len}
 use Rattle.redn_syntax.specs.declared.tree.Name.{Name}
 use Rattle.redn_syntax.specs.declared.tree.Num.{Num}
@@ -8,11 +8,12 @@ use Rattle.redn_syntax.specs.declared.tree.Operand.TheVariants as operand
 use Rattle.redn_syntax.specs.declared.tree.Item.{Item}
 use Rattle.redn_syntax.specs.declared.tree.Table.{Table}
 use Rattle.redn_syntax.specs.declared.tree.VarDecl.{VarDecl}
+use Rattle.redn_syntax.specs.declared.tree.Chain.{Chain}
 use Rattle.redn_syntax.specs.declared.tree.File.{File}
 use Rattle.redn_syntax.specs.declared.tree.Stmt.{Stmt}
 use Rattle.redn_syntax.specs.declared.tree.StmtKind.TheVariants as k
 use Rattle.redn_check.specs.Faults.{fault, first_of}
-use Rattle.redn_check.specs.Rules.{faults, one_too_many, bad_length, bad_items, table_faults, outside, weights, weight_at, too_heavy}
+use Rattle.redn_check.specs.Rules.{faults, bad_serve, one_too_many, bad_length, bad_items, table_faults, outside, weights, weight_at, too_heavy}
 use Rattle.redn_check.proofs.WrittenOut.{stmt, inner_add, exits_add, idles_add, inner_store, exits_store, breaks_store, inner_loop, exits_loop, idles_loop, breaks_loop, inner_repeat, inner_break, exits_break, idles_break, breaks_break, inner_lookup, exits_lookup, breaks_lookup, inner_walk, exits_walk, breaks_walk, inner_reply, exits_reply, breaks_reply}
 
 abbrev pub name : List ℕ → ℕ → Name
@@ -35,7 +36,7 @@ variable text at = record { name = name text at; first = None }
 
 -- a file of one chain
 abbrev file : List Table → List Name → List VarDecl → List Stmt → ℕ → File
-file tables args vars body close = record { tables = tables; chains = record { name = name (codes "c") 0; args = args; vars = vars; body = body; close = close } ∷ [] }
+file tables args vars body close = record { tables = tables; chains = record { name = name (codes "c") 0; serve = None; args = args; vars = vars; body = body; close = close } ∷ [] }
 
 abbrev reply : ℕ → Operand → Stmt
 reply at word = stmt at (k.Reply (word ∷ []))
@@ -182,13 +183,13 @@ behind_the_greatest = refl
 
 -- ---- rule 13
 
-a_count_of_0 : outside 1 4294967295 (number 0 17) ≡ fault 13 17 0 ∷ []
+a_count_of_0 : outside 13 1 4294967295 (number 0 17) ≡ fault 13 17 0 ∷ []
 a_count_of_0 = refl
 
-the_greatest_count : outside 1 4294967295 (number 4294967295 17) ≡ []
+the_greatest_count : outside 13 1 4294967295 (number 4294967295 17) ≡ []
 the_greatest_count = refl
 
-a_greater_count : outside 1 4294967295 (number 4294967296 17) ≡ fault 13 17 4294967296 ∷ []
+a_greater_count : outside 13 1 4294967295 (number 4294967296 17) ≡ fault 13 17 4294967296 ∷ []
 a_greater_count = refl
 
 -- table t[8] ro; chain c { var x; walk x = t[0] key 1 nodes 65536; reply x; }
@@ -203,7 +204,7 @@ nine_words = simp (k.outs-Reply, inner_reply, exits_reply, breaks_reply) refl
 
 -- chain c { arg k; repeat 9 { lookup k = t[0] key 1 probes 7; walk k = t[0] key 1 nodes 2; } reply k; }
 a_repeat_a_lookup_and_a_walk :
-    weights (record { name = name (codes "c") 6; args = name (codes "k") 14 ∷ []; vars = []; body = stmt 17 (k.Repeat (number 9 24) (stmt 28 (k.Lookup (name (codes "k") 35) (name (codes "t") 39) (numbered 0 41) (numbered 1 48) (number 7 57)) ∷ stmt 60 (k.Walk (name (codes "k") 65) (name (codes "t") 69) (numbered 0 71) (numbered 1 78) (number 2 86)) ∷ [])) ∷ reply 91 (named (codes "k") 97) ∷ []; close = 100 })
+    weights (record { name = name (codes "c") 6; serve = None; args = name (codes "k") 14 ∷ []; vars = []; body = stmt 17 (k.Repeat (number 9 24) (stmt 28 (k.Lookup (name (codes "k") 35) (name (codes "t") 39) (numbered 0 41) (numbered 1 48) (number 7 57)) ∷ stmt 60 (k.Walk (name (codes "k") 65) (name (codes "t") 69) (numbered 0 71) (numbered 1 78) (number 2 86)) ∷ [])) ∷ reply 91 (named (codes "k") 97) ∷ []; close = 100 })
     ≡ weight_at 14 1 ∷ weight_at 17 2 ∷ weight_at 28 5 ∷ weight_at 60 5 ∷ weight_at 91 1 ∷ []
 a_repeat_a_lookup_and_a_walk = simp (k.outs-Repeat, k.outs-Lookup, k.outs-Walk, k.outs-Reply, inner_repeat, inner_lookup, inner_walk, inner_reply) refl
 
@@ -218,3 +219,20 @@ a_file_that_weighs_more = refl
 
 the_least_place_then_the_least_rule_then_the_first : first_of (fault 7 10 0 ∷ fault 12 3 5 ∷ fault 4 10 0 ∷ fault 12 3 6 ∷ fault 13 3 0 ∷ []) ≡ Some (fault 12 3 5)
 the_least_place_then_the_least_rule_then_the_first = refl
+
+-- ---- rule 15: a chain serves one message so far
+
+abbrev serving : Option Num → Chain
+serving n = record { name = name (codes "c") 6; serve = n; args = []; vars = []; body = []; close = 24 }
+
+none_written : bad_serve (serving None) ≡ []
+none_written = refl
+
+one_written : bad_serve (serving (Some (number 1 14))) ≡ []
+one_written = refl
+
+none_served : bad_serve (serving (Some (number 0 14))) ≡ fault 15 14 0 ∷ []
+none_served = refl
+
+two_served : bad_serve (serving (Some (number 2 14))) ≡ fault 15 14 2 ∷ []
+two_served = refl

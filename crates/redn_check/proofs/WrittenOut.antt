@@ -18,21 +18,6 @@ stmt at kind = record { at = at; kind = kind }
 inner_of : (at : ℕ) (kind : StmtKind) (layer : StmtKind-F StmtKind Stmt) → out-StmtKind kind ≡ layer → with_inner (stmt at kind) ≡ stmt at kind ∷ each_of (inner layer)
 inner_of at kind layer e = with_inner_is (stmt at kind) ∙ ap (λ l. stmt at kind ∷ each_of (inner l)) e
 
-pub inner_move : (at : ℕ) (to : Name) (from : Operand) → with_inner (stmt at (k.Move to from)) ≡ stmt at (k.Move to from) ∷ []
-inner_move at to from = inner_of at (k.Move to from) _ (k.outs-Move to from)
-
-pub exits_move : (at : ℕ) (to : Name) (from : Operand) → exits_of (stmt at (k.Move to from)) ≡ exits true false
-unfolding exits_by
-exits_move at to from = exits_out (stmt at (k.Move to from)) _ (k.outs-Move to from)
-
-pub idles_move : (at : ℕ) (to : Name) (from : Operand) → idles_of (stmt at (k.Move to from)) ≡ idles false false
-unfolding idles_by
-idles_move at to from = idles_out (stmt at (k.Move to from)) _ (k.outs-Move to from)
-
-pub breaks_move : (at : ℕ) (to : Name) (from : Operand) → breaks_of (stmt at (k.Move to from)) ≡ []
-unfolding breaks_by
-breaks_move at to from = breaks_out (stmt at (k.Move to from)) _ (k.outs-Move to from)
-
 pub inner_add : (at : ℕ) (to : Name) (by : Operand) → with_inner (stmt at (k.Add to by)) ≡ stmt at (k.Add to by) ∷ []
 inner_add at to by = inner_of at (k.Add to by) _ (k.outs-Add to by)
 
@@ -44,20 +29,12 @@ pub idles_add : (at : ℕ) (to : Name) (by : Operand) → idles_of (stmt at (k.A
 unfolding idles_by
 idles_add at to by = idles_out (stmt at (k.Add to by)) _ (k.outs-Add to by)
 
-pub breaks_add : (at : ℕ) (to : Name) (by : Operand) → breaks_of (stmt at (k.Add to by)) ≡ []
-unfolding breaks_by
-breaks_add at to by = breaks_out (stmt at (k.Add to by)) _ (k.outs-Add to by)
-
 pub inner_load : (at : ℕ) (to : Name) (table : Name) (offset : Operand) → with_inner (stmt at (k.Load to table offset)) ≡ stmt at (k.Load to table offset) ∷ []
 inner_load at to table offset = inner_of at (k.Load to table offset) _ (k.outs-Load to table offset)
 
 pub exits_load : (at : ℕ) (to : Name) (table : Name) (offset : Operand) → exits_of (stmt at (k.Load to table offset)) ≡ exits true false
 unfolding exits_by
 exits_load at to table offset = exits_out (stmt at (k.Load to table offset)) _ (k.outs-Load to table offset)
-
-pub idles_load : (at : ℕ) (to : Name) (table : Name) (offset : Operand) → idles_of (stmt at (k.Load to table offset)) ≡ idles false false
-unfolding idles_by
-idles_load at to table offset = idles_out (stmt at (k.Load to table offset)) _ (k.outs-Load to table offset)
 
 pub breaks_load : (at : ℕ) (to : Name) (table : Name) (offset : Operand) → breaks_of (stmt at (k.Load to table offset)) ≡ []
 unfolding breaks_by
@@ -70,24 +47,9 @@ pub exits_store : (at : ℕ) (table : Name) (offset : Operand) (from : Operand) 
 unfolding exits_by
 exits_store at table offset from = exits_out (stmt at (k.Store table offset from)) _ (k.outs-Store table offset from)
 
-pub idles_store : (at : ℕ) (table : Name) (offset : Operand) (from : Operand) → idles_of (stmt at (k.Store table offset from)) ≡ idles false false
-unfolding idles_by
-idles_store at table offset from = idles_out (stmt at (k.Store table offset from)) _ (k.outs-Store table offset from)
-
 pub breaks_store : (at : ℕ) (table : Name) (offset : Operand) (from : Operand) → breaks_of (stmt at (k.Store table offset from)) ≡ []
 unfolding breaks_by
 breaks_store at table offset from = breaks_out (stmt at (k.Store table offset from)) _ (k.outs-Store table offset from)
-
-pub inner_if : (at : ℕ) (wide : Bool) (left : Operand) (right : Operand) (met : List Stmt) (unmet : List Stmt) → with_inner (stmt at (k.If wide left right met unmet)) ≡ stmt at (k.If wide left right met unmet) ∷ each_of (met ++ (unmet ++ []))
-inner_if at wide left right met unmet = inner_of at (k.If wide left right met unmet) _ (k.outs-If wide left right met unmet)
-
-pub exits_if : (at : ℕ) (wide : Bool) (left : Operand) (right : Operand) (met : List Stmt) (unmet : List Stmt) → exits_of (stmt at (k.If wide left right met unmet)) ≡ exits (falls_through met || falls_through unmet) (some_break (map exits_of met) || some_break (map exits_of unmet))
-unfolding exits_by
-exits_if at wide left right met unmet = exits_out (stmt at (k.If wide left right met unmet)) _ (k.outs-If wide left right met unmet)
-
-pub idles_if : (at : ℕ) (wide : Bool) (left : Operand) (right : Operand) (met : List Stmt) (unmet : List Stmt) → idles_of (stmt at (k.If wide left right met unmet)) ≡ idles false false
-unfolding idles_by
-idles_if at wide left right met unmet = idles_out (stmt at (k.If wide left right met unmet)) _ (k.outs-If wide left right met unmet)
 
 pub inner_loop : (at : ℕ) (body : List Stmt) → with_inner (stmt at (k.Loop body)) ≡ stmt at (k.Loop body) ∷ each_of (body ++ [])
 inner_loop at body = inner_of at (k.Loop body) _ (k.outs-Loop body)
@@ -110,10 +72,6 @@ inner_repeat at count body = inner_of at (k.Repeat count body) _ (k.outs-Repeat 
 pub exits_repeat : (at : ℕ) (count : Num) (body : List Stmt) → exits_of (stmt at (k.Repeat count body)) ≡ exits (falls_through body || some_break (map exits_of body)) false
 unfolding exits_by
 exits_repeat at count body = exits_out (stmt at (k.Repeat count body)) _ (k.outs-Repeat count body)
-
-pub idles_repeat : (at : ℕ) (count : Num) (body : List Stmt) → idles_of (stmt at (k.Repeat count body)) ≡ idles false false
-unfolding idles_by
-idles_repeat at count body = idles_out (stmt at (k.Repeat count body)) _ (k.outs-Repeat count body)
 
 pub breaks_repeat : (at : ℕ) (count : Num) (body : List Stmt) → breaks_of (stmt at (k.Repeat count body)) ≡ []
 unfolding breaks_by
@@ -141,10 +99,6 @@ pub exits_lookup : (at : ℕ) (to : Name) (table : Name) (offset : Operand) (key
 unfolding exits_by
 exits_lookup at to table offset key probes = exits_out (stmt at (k.Lookup to table offset key probes)) _ (k.outs-Lookup to table offset key probes)
 
-pub idles_lookup : (at : ℕ) (to : Name) (table : Name) (offset : Operand) (key : Operand) (probes : Num) → idles_of (stmt at (k.Lookup to table offset key probes)) ≡ idles false false
-unfolding idles_by
-idles_lookup at to table offset key probes = idles_out (stmt at (k.Lookup to table offset key probes)) _ (k.outs-Lookup to table offset key probes)
-
 pub breaks_lookup : (at : ℕ) (to : Name) (table : Name) (offset : Operand) (key : Operand) (probes : Num) → breaks_of (stmt at (k.Lookup to table offset key probes)) ≡ []
 unfolding breaks_by
 breaks_lookup at to table offset key probes = breaks_out (stmt at (k.Lookup to table offset key probes)) _ (k.outs-Lookup to table offset key probes)
@@ -156,10 +110,6 @@ pub exits_walk : (at : ℕ) (to : Name) (table : Name) (offset : Operand) (key :
 unfolding exits_by
 exits_walk at to table offset key nodes = exits_out (stmt at (k.Walk to table offset key nodes)) _ (k.outs-Walk to table offset key nodes)
 
-pub idles_walk : (at : ℕ) (to : Name) (table : Name) (offset : Operand) (key : Operand) (nodes : Num) → idles_of (stmt at (k.Walk to table offset key nodes)) ≡ idles false false
-unfolding idles_by
-idles_walk at to table offset key nodes = idles_out (stmt at (k.Walk to table offset key nodes)) _ (k.outs-Walk to table offset key nodes)
-
 pub breaks_walk : (at : ℕ) (to : Name) (table : Name) (offset : Operand) (key : Operand) (nodes : Num) → breaks_of (stmt at (k.Walk to table offset key nodes)) ≡ []
 unfolding breaks_by
 breaks_walk at to table offset key nodes = breaks_out (stmt at (k.Walk to table offset key nodes)) _ (k.outs-Walk to table offset key nodes)
@@ -170,10 +120,6 @@ inner_reply at words = inner_of at (k.Reply words) _ (k.outs-Reply words)
 pub exits_reply : (at : ℕ) (words : List Operand) → exits_of (stmt at (k.Reply words)) ≡ exits false false
 unfolding exits_by
 exits_reply at words = exits_out (stmt at (k.Reply words)) _ (k.outs-Reply words)
-
-pub idles_reply : (at : ℕ) (words : List Operand) → idles_of (stmt at (k.Reply words)) ≡ idles false false
-unfolding idles_by
-idles_reply at words = idles_out (stmt at (k.Reply words)) _ (k.outs-Reply words)
 
 pub breaks_reply : (at : ℕ) (words : List Operand) → breaks_of (stmt at (k.Reply words)) ≡ []
 unfolding breaks_by

@@ -73,8 +73,13 @@ first_value v = option_map_or (λ (n : Num). n.value) v.first 0
 abbrev pub first_values : Chain → List ℕ
 first_values c = replicate (length c.args) 0 ++ map first_value c.vars
 
+-- where it isn't written, a chain serves one message
+abbrev pub served : Chain → ℕ
+served c = option_map_or (λ (n : Num). n.value) c.serve 1
+
 abbrev pub chain_init : List Table → Chain → ChainInit
 chain_init tables c = record {
+  serve = served c;
   args = length c.args;
   vars = first_values c;
   body = map (kernel_of (table_names tables) (variables c)) c.body;

@@ -125,19 +125,26 @@ bad_items t = flat_map (λ e. misplaced t.length.value e.0 e.1) (with_earlier t.
 abbrev pub table_faults : List Table → Table → List Fault
 table_faults earlier t = when (length earlier == 64) (fault 12 t.name.at 65) ++ bad_length earlier t ++ bad_items t
 
--- ---- rule 13: numbers and replies keep to their ranges
+-- ---- rules 13 and 15: numbers and replies keep to their ranges
 
-abbrev pub outside : ℕ → ℕ → Num → List Fault
-outside least most n = when (nat_lt n.value least || nat_lt most n.value) (fault 13 n.at n.value)
+abbrev pub outside : ℕ → ℕ → ℕ → Num → List Fault
+outside rule least most n = when (nat_lt n.value least || nat_lt most n.value) (fault rule n.at n.value)
+
+-- one message is what chains can serve so far
+abbrev pub most_served : ℕ
+most_served = 1
+
+abbrev pub bad_serve : Chain → List Fault
+bad_serve c = option_map_or (outside 15 1 most_served) c.serve []
 
 abbrev pub place_of_operand : Operand → ℕ
 place_of_operand (operand.Name n) = n.at
 place_of_operand (operand.Num n) = n.at
 
 abbrev pub out_of_range : {A B : Type 0} → StmtKind-F A B → List Fault
-out_of_range (StmtKind-F.Repeat count body) = outside 1 4294967295 count
-out_of_range (StmtKind-F.Lookup to table offset key probes) = outside 1 4 probes
-out_of_range (StmtKind-F.Walk to table offset key nodes) = outside 1 65535 nodes
+out_of_range (StmtKind-F.Repeat count body) = outside 13 1 4294967295 count
+out_of_range (StmtKind-F.Lookup to table offset key probes) = outside 13 1 4 probes
+out_of_range (StmtKind-F.Walk to table offset key nodes) = outside 13 1 65535 nodes
 out_of_range (StmtKind-F.Reply words) = one_too_many 13 8 (map place_of_operand words)
 out_of_range _ = []
 
@@ -182,6 +189,7 @@ abbrev pub chain_faults : List Table → Chain → List Fault
 chain_faults tables c =
     twice (variables c)
     ++ one_too_many 10 8 (map (λ (n : Name). n.at) c.args) ++ one_too_many 11 256 (map (λ (n : Name). n.at) (variables c))
+    ++ bad_serve c
     ++ flat_map (statement_faults tables (variables c)) (each_of c.body)
     ++ control_faults c
 

@@ -1,4 +1,5 @@
-//! Rules 9 to 12: how many there may be, and how large tables are.
+//! Rules 9 to 12 and 15: how many there may be, how large tables are, and how many messages a chain
+//! serves.
 
 ghost use Rattle.std.specs.Prelude.{◌≡◌, ◌-◌, ◌^◌, min, map, List, slice_get};
 ghost use Rattle.std.specs.List.{flat_map};
@@ -19,6 +20,9 @@ const MAX_CHAINS: usize = 16;
 const MAX_ARGUMENTS: usize = 8;
 
 const MAX_VARIABLES: usize = 256;
+
+/// How many messages a chain serves at most.
+const MAX_SERVED: u64 = 1;
 
 /// In bytes, of all tables together.
 const MAX_LENGTH: u64 = 1_048_576;
@@ -55,6 +59,20 @@ pub fn too_many_variables(chain: &Chain) -> Option<Fault>
 {
     let at = place_behind(chain, MAX_VARIABLES)?;
     when(true, 11, at, MAX_VARIABLES as u64 + 1)
+}
+
+/// The fault of a rule by which a number has a least and a greatest value.
+pub fn outside(which: u8, least: u64, most: u64, number: Num) -> Option<Fault>
+    ensures { result ≡ first_of (rule.outside which least most number) }
+{
+    let value = number.value;
+    when(value < least || most < value, which, number.at, value)
+}
+
+pub fn bad_serve(chain: &Chain) -> Option<Fault>
+    ensures { result ≡ first_of (rule.bad_serve chain.now) }
+{
+    outside(15, 1, MAX_SERVED, chain.serve?)
 }
 
 /// The fault of a table's length, behind tables of this length, which stops at 2^64 - 1.

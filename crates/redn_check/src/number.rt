@@ -256,6 +256,14 @@ fn first_value(variable: &VarDecl) -> u64
     variable.first.map_or(0, |number| number.value)
 }
 
+/// How many messages a chain serves.
+fn served(chain: &Chain) -> u16
+    requires { rule.bad_serve chain.now ≡ [] }
+    ensures { result ≡ numbering.served chain.now }
+{
+    chain.serve.map_or(1, |number| number.value as u16)
+}
+
 fn chain(
     alloc: Global,
     tables: &[Table],
@@ -266,6 +274,7 @@ fn chain(
     requires few_tables { length tables.now ≤ 64 }
     requires few_variables { length (names.variables chain.now) ≤ 256 }
     requires numbers { flat_map rule.number_faults (each_of chain.now.body) ≡ [] }
+    requires serve { rule.bad_serve chain.now ≡ [] }
     ensures chain { IfOk result (λ c. c ≡ numbering.chain_init tables.now chain.now) }
     ensures words { IfOk result (λ c. AreWords c.vars) }
 {
@@ -279,6 +288,7 @@ fn chain(
     let body = kernels(alloc, &Numbers { scope }, chain.body.as_slice())?;
     let vars = first_values(alloc, chain)?;
     Ok(ChainInit {
+        serve: served(chain),
         args: chain.args.len() as u16,
         vars,
         body,

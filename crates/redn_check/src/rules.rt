@@ -3,7 +3,7 @@
 ghost use Rattle.std.specs.Prelude.{◌≡◌, ◌++◌, ℕ, All, IfOk, IsErrOf};
 ghost use Rattle.std.specs.List.{flat_map};
 ghost use Rattle.redn_syntax.specs.Grammar.{IsWritable};
-ghost use Rattle.redn_kernel.specs.Program.{AreWords, IsSound};
+ghost use Rattle.redn_kernel.specs.Program.{AreWords, IsSound, ServesOne};
 ghost use Rattle.redn_check.specs.declared.fault.Fault.{Fault as SpecFault};
 ghost use Rattle.redn_check.specs.Answers.{FailsWith, Gives};
 ghost use Rattle.redn_check.specs.Faults.{fault, first_of, IsFirst};
@@ -14,7 +14,9 @@ ghost use Rattle.redn_check.specs.Rules.{Accepts, faults, chain_faults};
 
 use crate::fault::{CheckFault, Fault, earlier};
 use crate::flow::first_in_flow;
-use crate::limits::{first_in_tables, too_many_arguments, too_many_chains, too_many_variables};
+use crate::limits::{
+    bad_serve, first_in_tables, too_many_arguments, too_many_chains, too_many_variables,
+};
 use crate::names::{Names, declare_chains, declare_tables, declare_variables};
 use crate::number::program;
 use crate::scope::Scope;
@@ -43,7 +45,8 @@ fn first_in_chain(
     };
     let args = earlier(declared.first, too_many_arguments(chain.args.as_slice()));
     let many = earlier(args, too_many_variables(chain));
-    let own = earlier(many, first_in(&scope, chain.body.as_slice()));
+    let served = earlier(many, bad_serve(chain));
+    let own = earlier(served, first_in(&scope, chain.body.as_slice()));
     Ok(earlier(own, first_in_flow(chain)))
 }
 
@@ -103,6 +106,7 @@ pub fn check(alloc: Global, f: &File) -> Result<Program, CheckFault>
     ensures accepted { IfOk result (λ p. Accepts f.now) }
     ensures program { IfOk result (λ p. p ≡ program_of f.now) }
     ensures sound { IfOk result (λ p. IsSound p) }
+    ensures one { IfOk result (λ p. ServesOne p) }
     ensures rule { (rule at seen : ℕ) → IsErrOf result (CheckFault.Rule rule at seen) →
         IsFirst (fault rule at seen) (faults f.now) }
 

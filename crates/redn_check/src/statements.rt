@@ -12,8 +12,9 @@ ghost use Rattle.redn_check.specs.Rules as rule;
 ghost use Rattle.redn_check.specs.Statements.{each_of, with_inner};
 
 use crate::fault::{Fault, earlier, when};
+use crate::limits::outside;
 use crate::scope::{Scope, is_read_only, is_table, is_variable};
-use redn_syntax::{Name, Num, Operand, Stmt, StmtKind};
+use redn_syntax::{Name, Operand, Stmt, StmtKind};
 
 /// The most words of a reply.
 const MAX_WORDS: usize = 8;
@@ -162,13 +163,6 @@ fn overwritten(kind: &StmtKind) -> Option<Fault>
     }
 }
 
-fn outside(least: u64, most: u64, number: Num) -> Option<Fault>
-    ensures { result ≡ first_of (rule.outside least most number) }
-{
-    let value = number.value;
-    when(value < least || most < value, 13, number.at, value)
-}
-
 fn place_of_operand(operand: &Operand) -> u32
     ensures { result ≡ rule.place_of_operand operand.now }
 {
@@ -190,9 +184,9 @@ fn out_of_range(kind: &StmtKind) -> Option<Fault>
     ensures { result ≡ first_of (rule.out_of_range (out-StmtKind kind.now)) }
 {
     match kind {
-        StmtKind::Repeat { count, .. } => outside(1, u64::from(u32::MAX), *count),
-        StmtKind::Lookup { probes, .. } => outside(1, 4, *probes),
-        StmtKind::Walk { nodes, .. } => outside(1, u64::from(u16::MAX), *nodes),
+        StmtKind::Repeat { count, .. } => outside(13, 1, u64::from(u32::MAX), *count),
+        StmtKind::Lookup { probes, .. } => outside(13, 1, 4, *probes),
+        StmtKind::Walk { nodes, .. } => outside(13, 1, u64::from(u16::MAX), *nodes),
         StmtKind::Reply { words } => too_many_words(words.as_slice()),
         _ => None,
     }

@@ -22,7 +22,7 @@ body_done = k.Repeat 1000 turn_done ∷ k.Reply (Var 3 ∷ Var 4 ∷ []) ∷ []
 
 -- two arguments and five variables
 abbrev pub made : ChainInit
-made = record { args = 2; vars = 0 ∷ 0 ∷ 0 ∷ 0 ∷ 0 ∷ []; body = body_done }
+made = record { serve = 1; args = 2; vars = 0 ∷ 0 ∷ 0 ∷ 0 ∷ 0 ∷ []; body = body_done }
 
 -- the names of the tables
 abbrev tables : List Name
@@ -55,7 +55,7 @@ body_is = λ i. repeat_done i ∷ reply_done i ∷ []
 
 -- so each chain is the same, whatever the table has
 pub chain_made : (items : List Item) (c : ℕ) → chain_init (table_of items ∷ []) (chain c) ≡ made
-chain_made items c = let init : List Kernel → ChainInit = λ b. record { args = 2; vars = 0 ∷ 0 ∷ 0 ∷ 0 ∷ 0 ∷ []; body = b } in ap init body_is
+chain_made items c = let init : List Kernel → ChainInit = λ b. record { serve = 1; args = 2; vars = 0 ∷ 0 ∷ 0 ∷ 0 ∷ 0 ∷ []; body = b } in ap init body_is
 
 pub chains_made : (items : List Item) (cs : List ℕ) → map (chain_init (table_of items ∷ [])) (map chain cs) ≡ map (λ c. made) cs
 chains_made items [] = refl

@@ -104,6 +104,7 @@ chain_name c = name (codes "g" ++ decimal c)
 abbrev pub chain : ℕ → Chain
 chain c = record {
   name = chain_name c;
+  serve = None;
   args = arguments;
   vars = variables;
   body = body;

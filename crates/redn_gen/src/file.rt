@@ -151,6 +151,7 @@ fn chain(alloc: Global, chain: u32) -> Result<Chain, Memory>
     let body = body(alloc)?;
     Ok(Chain {
         name,
+        serve: None,
         args,
         vars,
         body,

@@ -71,9 +71,6 @@ run_of p (b ∷ text) = elim (cases_Bool (p b)) [ inl yes' ↦ goes yes' (run_of
     stays : p b ≡ false → Run p (b ∷ text)
     stays h = record { front = []; rest = b ∷ text; split = refl; passes = refl; stops = h; size = rw h refl }
 
-pub run_take : {p : ℕ → Bool} {text : List ℕ} (r : Run p text) → take (prefix_len p text) text ≡ r.front
-run_take {p} {text} r = ap (take (prefix_len p text)) r.split ∙ take_at r.front r.rest (prefix_len p text) r.size
-
 -- ---- words
 
 -- a run that begins with a byte that passes has it in front

@@ -216,14 +216,6 @@ pub record HasRead (text front rest : List ℕ) (found : List Token) : Type 0 wh
   pub backward : (part others : List ℕ) (all : List Token) → rest ≡ part ++ others → Tokenizes (front ++ part) all → (more : List Token) × (all ≡ found ++ more) × TokenizesFrom (length front) part more
   pub ends : (earlier : List Token) (t : Token) → found ≡ earlier ++ t ∷ [] → (before : List ℕ) × (bytes : List ℕ) × (front ≡ before ++ bytes) × (t.at ≡ length before) × (t.len ≡ length bytes) × EndsBefore bytes rest
 
-pub read_nothing : (text : List ℕ) → HasRead text [] text []
-read_nothing text = record {
-  split = refl;
-  onward = λ part others more e tokens. tokens;
-  backward = λ part others all e tokens. (all, refl, tokens);
-  ends = λ earlier t e. absurd (omega (arith, ap length e, length-append earlier (t ∷ [])));
-}
-
 -- a gap and a token more
 pub read_more : (text front rest : List ℕ) (found : List Token) (t : Token) (after : List ℕ) (r : HasRead text front rest found) (next : NextToken (length front) rest t after) → HasRead text ((front ++ next.gap) ++ next.bytes) after (found ++ t ∷ [])
 read_more text front rest found t after r next = record {
@@ -459,9 +451,6 @@ pub record Reads (text rest : List ℕ) (place : ℕ) (found : List Token) : Typ
   pub place_is : place ≡ length front
   pub read : HasRead text front rest found
 
-pub reads_nothing : (text : List ℕ) → Reads text text 0 []
-reads_nothing text = record { front = []; place_is = refl; read = read_nothing text }
-
 pub reads_more : (text rest : List ℕ) (place : ℕ) (found : List Token) (t : Token) (after : List ℕ) → Reads text rest place found → NextToken place rest t after → Reads text after (t.at + t.len) (found ++ t ∷ [])
 reads_more text rest place found t after r next =
     let next' = subst (λ n. NextToken n rest t after) r.place_is next in
@@ -471,10 +460,6 @@ reads_more text rest place found t after r next =
       read = read_more text r.front rest found t after r.read next';
     }
 
--- the place and the rest make up the text
-pub reads_length : (text rest : List ℕ) (place : ℕ) (found : List Token) → Reads text rest place found → place + length rest ≡ length text
-reads_length text rest place found r = omega (arith, r.place_is, ap length r.read.split, length-append r.front rest)
-
 pub reads_all : (text rest : List ℕ) (place : ℕ) (found : List Token) → Reads text rest place found → IsGap true rest → Tokenizes text found
 reads_all text rest place found r gap = read_all text r.front rest found r.read gap
 
@@ -482,11 +467,3 @@ pub reads_fault : (text rest : List ℕ) (place : ℕ) (found : List Token) (fau
 reads_fault text rest place found (BadByte at) r b = bad_too text r.front rest found r.read at (subst (λ n. IsBadByteFrom n rest at) r.place_is b)
 reads_fault text rest place found (NumberTooWide at) r w = wide_too text r.front rest found r.read at (subst (λ n. IsTooWideFrom n rest at) r.place_is w)
 reads_fault text rest place found Memory r m = tt
-
--- a token has a byte
-pub next_moves : (place : ℕ) (text : List ℕ) (t : Token) (after : List ℕ) → NextToken place text t after → (place < t.at + t.len) × (t.at + t.len ≤ place + length text)
-next_moves place text t after next =
-    let first = first_solid t.kind next.bytes t.value next.means in (
-      omega (arith, next.place, next.size, ap length first.2),
-      omega (arith, next.place, next.size, ap length next.split, length-append next.gap (next.bytes ++ after), length-append next.bytes after),
-    )

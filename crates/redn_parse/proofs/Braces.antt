@@ -300,9 +300,13 @@ block n zero h xs = never n n
 block n (suc d) h xs =
     opened n (λ e. omega arith) then (each (n + 1) (g.statement SamePlace (g.block_within SamePlace d)) (statement (n + 1) (g.block_within SamePlace d) (block (n + 1) d (omega arith))) xs then closed n)
 
+pub opening : (o : Option Num) → Keeps 0 1 (g.opening SamePlace o)
+opening None = opened 0 (λ e. omega arith)
+opening (Some x) = marked 0 k.Serve (λ at. (refl, refl)) then (numbered 0 x then opened 0 (λ e. omega arith))
+
 pub chain : (c : Chain) → Keeps 0 0 (g.chain_within SamePlace 64 c)
 chain c =
-    marked 0 k.Chain (λ at. (refl, refl)) then (named 0 c.name then (opened 0 (λ e. omega arith) then (each 1 (g.argument SamePlace) (argument 1) c.args then (each 1 (g.variable SamePlace) (variable 1) c.vars
+    marked 0 k.Chain (λ at. (refl, refl)) then (named 0 c.name then (opening c.serve then (each 1 (g.argument SamePlace) (argument 1) c.args then (each 1 (g.variable SamePlace) (variable 1) c.vars
     then (each 1 (g.statement SamePlace (g.block_within SamePlace 64)) (statement 1 (g.block_within SamePlace 64) (block 1 64 (omega arith))) c.body then closed_at 0 c.close)))))
 
 pub tables : (ts : List Table) → Keeps 0 0 (g.each (g.table SamePlace) ts)

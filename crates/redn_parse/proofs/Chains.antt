@@ -1,19 +1,21 @@
 -- Chains and files.
-use Rattle.std.proofs.Common.{arith, ◌≡◌, ◌<◌, ℕ, ◌⊎◌, inl, inr, true, false, List, [], ◌∷◌, ◌++◌, Option, Some, None, length, sym, refl, ap, ◌∙◌, subst}
+use Rattle.std.proofs.Common.{arith, ◌≡◌, ◌<◌, ℕ, ◌⊎◌, inl, inr, Bool, true, false, if◌then◌else◌, List, [], ◌∷◌, ◌++◌, Option, Some, None, length, sym, refl, ap, ◌∙◌, subst}
 use Rattle.redn_syntax.specs.declared.token.TokenKind.{TokenKind}
 use Rattle.redn_syntax.specs.declared.token.TokenKind.TheVariants as k
 use Rattle.redn_syntax.specs.declared.tree.Name.{Name}
+use Rattle.redn_syntax.specs.declared.tree.Num.{Num}
 use Rattle.redn_syntax.specs.declared.tree.Table.{Table}
 use Rattle.redn_syntax.specs.declared.tree.VarDecl.{VarDecl}
 use Rattle.redn_syntax.specs.declared.tree.Chain.{Chain}
 use Rattle.redn_syntax.specs.declared.tree.File.{File}
+use Rattle.redn_syntax.specs.declared.tree.Stmt.{Stmt}
 use Rattle.redn_syntax.specs.Lexemes.{Lexeme}
 use Rattle.redn_syntax.specs.Grammar as g
 use Rattle.redn_syntax.specs.Grammar.{Phrase, ◌>>◌, SamePlace}
-use Rattle.redn_parse.specs.Lookahead.{kind_at}
+use Rattle.redn_parse.specs.Lookahead.{kind_at, next_place}
 use Rattle.redn_parse.specs.Reads.{HasNone, with_mark, all_before, statement, body}
 use Rattle.redn_parse.specs.Reads as reads
-use Rattle.redn_parse.proofs.Same.{Ahead, Same, anything, Sees, ◌and◌, past, marks, names, no_argument, no_variable, no_table}
+use Rattle.redn_parse.proofs.Same.{Ahead, Same, anything, Sees, ◌and◌, past, marks, names, no_argument, no_variable, no_table, openings}
 use Rattle.redn_parse.proofs.Trees.{chains, argument_lists, variable_lists, table_lists, no_argument_begins, no_variable_begins, some_begins}
 use Rattle.redn_parse.proofs.Blocks.{NoBody}
 use Rattle.redn_parse.proofs.Braces as braces
@@ -50,11 +52,11 @@ abbrev pub NoChain : List Lexeme → Type 0
 NoChain b = HasNone (λ (p : ℕ × Chain). g.chain_within SamePlace p.0 p.1 >> g.nothing) b
 
 -- up to its arguments
-abbrev pub head : Name → Phrase
-head n = g.mark k.Chain >> with_mark (g.name SamePlace) k.OpenBrace n
+abbrev pub head : Name → Option Num → Phrase
+head n s = g.mark k.Chain >> (g.name SamePlace n >> g.opening SamePlace s)
 
-heads : (n m : Name) → Same anything (head n) (head m) ((n ≡ m) × Unit {0})
-heads n m = past k.Chain (names n m and marks k.OpenBrace)
+heads : (n m : Name) (s t : Option Num) → Same anything (head n s) (head m t) ((n ≡ m) × (s ≡ t))
+heads n m s t = past k.Chain (names n m and openings s t)
 
 -- the parts of a chain
 pub record Parts (d : ℕ) (c : Chain) (b r : List Lexeme) : Type 0 where
@@ -62,7 +64,7 @@ pub record Parts (d : ℕ) (c : Chain) (b r : List Lexeme) : Type 0 where
   pub behind_args : List Lexeme
   pub behind_vars : List Lexeme
   pub behind_body : List Lexeme
-  pub head : head c.name b behind_head
+  pub head : head c.name c.serve b behind_head
   pub args : g.each (g.argument SamePlace) c.args behind_head behind_args
   pub vars : g.each (g.variable SamePlace) c.vars behind_args behind_vars
   pub body : g.each (statement d) c.body behind_vars behind_body
@@ -85,9 +87,9 @@ parts d c b r (m0, h0, (m1, h1, (m2, h2, (m3, h3, (m4, h4, (m5, h5, h6)))))) = r
   no_variable = (no_variable_begins d c).sees m4 r (m5, h5, h6);
 }
 
-module _ (name : Name) (b m : List Lexeme) (named : head name b m) where
+module _ (name : Name) (serve : Option Num) (b m : List Lexeme) (named : head name serve b m) where
   same_head : (d : ℕ) (c : Chain) (r : List Lexeme) (p : Parts d c b r) → m ≡ p.behind_head
-  same_head d c r p = ((heads name c.name).joins b b m p.behind_head refl named p.head refl refl).1
+  same_head d c r p = ((heads name c.name serve c.serve).joins b b m p.behind_head refl named p.head refl refl).1
 
   pub args_failed : HasNone (all_before (g.argument SamePlace) k.Arg) m → NoChain b
   args_failed none = record {
@@ -127,17 +129,27 @@ module _ (name : Name) (b m : List Lexeme) (named : head name b m) where
             none.rejects (q.0, q.1.body) p.behind_body (p.behind_body, (p.behind_body, statements, (refl, ap (kind_at 0) p.close.2)), refl);
       }
 
-pub head_front : (name : Name) → Free (head name)
-head_front name = fronts.marked k.Chain plus (fronts.named name plus fronts.marked k.OpenBrace)
+pub head_front : (name : Name) (serve : Option Num) → Free (head name serve)
+head_front name serve = fronts.marked k.Chain plus (fronts.named name plus fronts.opening serve)
 
-pub head_kept : (name : Name) → Keeps 0 1 (head name)
-head_kept name = braces.marked 0 k.Chain (λ p. (refl, refl)) then (braces.named 0 name then braces.opened 0 (λ e. omega arith))
+pub head_kept : (name : Name) (serve : Option Num) → Keeps 0 1 (head name serve)
+head_kept name serve = braces.marked 0 k.Chain (λ p. (refl, refl)) then (braces.named 0 name then braces.opening serve)
 
 pub args_kept : (args : List Name) → Keeps 1 1 (g.each (g.argument SamePlace) args)
 args_kept = braces.each 1 (g.argument SamePlace) (braces.argument 1)
 
 pub vars_kept : (vars : List VarDecl) → Keeps 1 1 (g.each (g.variable SamePlace) vars)
 vars_kept = braces.each 1 (g.variable SamePlace) (braces.variable 1)
+
+-- what was read, without what is known of the token behind it
+pub all_of : {X : Type 0} (phrase : X → Phrase) (kind : TokenKind) (xs : List X) (b a : List Lexeme) → all_before phrase kind xs b a → g.each phrase xs b a
+all_of phrase kind xs b a h = subst (λ l. g.each phrase xs b l) h.2.0 h.1
+
+pub body_of : (room : ℕ) (xs : List Stmt) (b a : List Lexeme) → body room xs b a → g.each (statement room) xs b a
+body_of room xs b a h = subst (λ l. g.each (statement room) xs b l) h.2.0 h.1
+
+pub closing : (place : ℕ) (b a : List Lexeme) → place ≡ next_place b → g.mark k.CloseBrace b a → g.mark_at SamePlace k.CloseBrace place b a
+closing place b a e h = (h.0, e ∙ ap next_place h.1, h.1)
 
 pub empty_chain : (depth : ℕ) (tail : List Lexeme) → g.chain_within SamePlace depth a.a_chain (a.mark k.Chain ∷ a.name ∷ a.mark k.OpenBrace ∷ a.mark k.CloseBrace ∷ tail) tail
 empty_chain depth tail = (_, (0, refl), (_, (0, refl, refl), (_, (0, refl), (_, refl, (_, refl, (_, refl, (0, refl, refl)))))))
@@ -213,3 +225,29 @@ module _ (ts : List Table) (b m : List Lexeme) (tables : all_before (g.table Sam
 
 pub file_goes : Goes g.nothing (g.each (g.table SamePlace)) (g.file_within SamePlace 65)
 file_goes = first_goes (λ z. (record { tables = z; chains = a.a_chain ∷ [] }, a.mark k.Chain ∷ a.name ∷ a.mark k.OpenBrace ∷ a.mark k.CloseBrace ∷ [], λ b tail d. (_, d, (_, empty_chain 65 tail, refl))))
+
+-- ---- the number of messages, and the brace behind it
+
+pub opening_goes : Goes g.nothing (λ is_written. g.mark (if is_written then k.Serve else k.OpenBrace)) (g.opening SamePlace)
+opening_goes = first_goes cases
+  where
+    cases : (z : Bool) → (x : Option Num) × (more : List Lexeme) × ((b tail : List Lexeme) → g.mark (if z then k.Serve else k.OpenBrace) b (more ++ tail) → g.opening SamePlace x b tail)
+    cases true = (Some a.a_number, a.number ∷ a.mark k.OpenBrace ∷ [], λ b tail d. (_, d, (_, (0, refl, refl), (0, refl))))
+    cases false = (None, [], λ b tail d. d)
+
+pub opening_begins : (b : List Lexeme) → HasNone (λ is_written. g.mark (if is_written then k.Serve else k.OpenBrace)) b → HasNone (g.opening SamePlace) b
+opening_begins b none = record { rejects = rejects }
+  where
+    rejects : (o : Option Num) (after : List Lexeme) → g.opening SamePlace o b after → ⊥
+    rejects None after d = none.rejects false after d
+    rejects (Some n) after d = none.rejects true d.0 d.1
+
+-- behind `serve`
+pub opening_failed : (b m : List Lexeme) → g.mark k.Serve b m → HasNone (with_mark (g.number SamePlace) k.OpenBrace) m → HasNone (g.opening SamePlace) b
+opening_failed b m h none = record { rejects = rejects }
+  where
+    rejects : (o : Option Num) (after : List Lexeme) → g.opening SamePlace o b after → ⊥
+    rejects None after d = cc
+    rejects (Some n) after d =
+        let same = ((marks k.Serve).joins b b m d.0 refl h d.1 refl refl).1 in
+        none.rejects n after (subst (λ l. with_mark (g.number SamePlace) k.OpenBrace n l after) (sym same) d.2)

@@ -164,9 +164,13 @@ block (suc d) xs =
 pub statements : (d : ℕ) (xs : List Stmt) → Free (g.each (g.statement SamePlace (g.block_within SamePlace d)) xs)
 statements d xs = each (g.statement SamePlace (g.block_within SamePlace d)) (statement (g.block_within SamePlace d) (block d)) xs
 
+pub opening : (o : Option Num) → Free (g.opening SamePlace o)
+opening None = marked k.OpenBrace
+opening (Some x) = marked k.Serve plus (numbered x plus marked k.OpenBrace)
+
 pub chain : (d : ℕ) (c : Chain) → Free (g.chain_within SamePlace d c)
 chain d c =
-    marked k.Chain plus (named c.name plus (marked k.OpenBrace plus (each (g.argument SamePlace) argument c.args plus (each (g.variable SamePlace) variable c.vars
+    marked k.Chain plus (named c.name plus (opening c.serve plus (each (g.argument SamePlace) argument c.args plus (each (g.variable SamePlace) variable c.vars
     plus (statements d c.body plus closed_at c.close)))))
 
 -- ---- one block deeper

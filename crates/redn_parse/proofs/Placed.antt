@@ -288,13 +288,19 @@ block (suc d) xs =
     (marked k.OpenBrace and (each (g.statement AnyPlace (g.block_within AnyPlace d)) (g.statement SamePlace (g.block_within SamePlace d)) p.statement (statement (g.block_within AnyPlace d) (g.block_within SamePlace d) (block d)) xs and marked k.CloseBrace))
     (λ y b a h. h) (λ y e. e.1.0)
 
+opening : (o : Option Num) → Placed (g.opening AnyPlace o) (g.opening SamePlace) (λ y. option_map p.number y ≡ option_map p.number o)
+opening None = as_this (g.opening SamePlace) (λ y. option_map p.number y ≡ None) (λ (w : Unit {0}). None) (marked k.OpenBrace) (λ y b a h. h) (λ y e. refl)
+opening (Some n) =
+    as_this (g.opening SamePlace) (λ y. option_map p.number y ≡ Some (p.number n)) (λ (w : Unit {0} × (Num × Unit {0})). Some w.1.0)
+    (marked k.Serve and (numbered n and marked k.OpenBrace)) (λ y b a h. h) (λ y e. ap (λ x. Some x) e.1.0)
+
 chain : (d : ℕ) (c : Chain) → Placed (g.chain_within AnyPlace d c) (g.chain_within SamePlace d) (λ y. p.chain y ≡ p.chain c)
 chain d c =
     as_this (g.chain_within SamePlace d) (λ y. p.chain y ≡ p.chain c)
-    (λ (w : Unit {0} × (Name × (Unit {0} × (List Name × (List VarDecl × (List Stmt × ℕ)))))). record { name = w.1.0; args = w.1.1.1.0; vars = w.1.1.1.1.0; body = w.1.1.1.1.1.0; close = w.1.1.1.1.1.1 })
-    (marked k.Chain and (named c.name and (marked k.OpenBrace and (each (g.argument AnyPlace) (g.argument SamePlace) p.name argument c.args and (each (g.variable AnyPlace) (g.variable SamePlace) p.variable variable c.vars
+    (λ (w : Unit {0} × (Name × (Option Num × (List Name × (List VarDecl × (List Stmt × ℕ)))))). record { name = w.1.0; serve = w.1.1.0; args = w.1.1.1.0; vars = w.1.1.1.1.0; body = w.1.1.1.1.1.0; close = w.1.1.1.1.1.1 })
+    (marked k.Chain and (named c.name and (opening c.serve and (each (g.argument AnyPlace) (g.argument SamePlace) p.name argument c.args and (each (g.variable AnyPlace) (g.variable SamePlace) p.variable variable c.vars
     and (each (g.statement AnyPlace (g.block_within AnyPlace d)) (g.statement SamePlace (g.block_within SamePlace d)) p.statement (statement (g.block_within AnyPlace d) (g.block_within SamePlace d) (block d)) c.body and closed c.close))))))
-    (λ y b a h. h) (λ y e i. record { name = e.1.0 i; args = e.1.1.1.0 i; vars = e.1.1.1.1.0 i; body = e.1.1.1.1.1.0 i; close = 0 })
+    (λ y b a h. h) (λ y e i. record { name = e.1.0 i; serve = e.1.1.0 i; args = e.1.1.1.0 i; vars = e.1.1.1.1.0 i; body = e.1.1.1.1.1.0 i; close = 0 })
 
 file : (d : ℕ) (f : File) → Placed (g.file_within AnyPlace d f) (g.file_within SamePlace d) (λ y. p.file y ≡ p.file f)
 file d f =

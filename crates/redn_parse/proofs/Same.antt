@@ -286,6 +286,12 @@ tables t u = weaken (past k.Table (names t.name u.name and past k.OpenBracket (n
 pub arguments : (n m : Name) → Same anything (g.argument SamePlace n) (g.argument SamePlace m) (n ≡ m)
 arguments n m = weaken (past k.Arg (names n m and marks k.Semicolon)) (λ e. e.0)
 
+pub openings : (o p : Option Num) → Same anything (g.opening SamePlace o) (g.opening SamePlace p) (o ≡ p)
+openings None None = weaken (marks k.OpenBrace) (λ _. refl)
+openings None (Some n) = record { joins = λ b c r s e h h' v w. cc }
+openings (Some n) None = record { joins = λ b c r s e h h' v w. cc }
+openings (Some n) (Some m) = weaken (past k.Serve (numbers n m and marks k.OpenBrace)) (λ e. ap (λ x. Some x) e.0)
+
 pub firsts : (o p : Option Num) → Same anything (with_mark (g.first_value SamePlace) k.Semicolon o) (with_mark (g.first_value SamePlace) k.Semicolon p) (o ≡ p)
 firsts None None = weaken (nothing and marks k.Semicolon) (λ _. refl)
 firsts None (Some n) = record { joins = λ b c r s e h h' v w. cc }

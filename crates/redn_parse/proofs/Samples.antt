@@ -30,7 +30,7 @@ abbrev pub a_variable : VarDecl
 a_variable = record { name = a_name; first = None }
 
 abbrev pub a_chain : Chain
-a_chain = record { name = a_name; args = []; vars = []; body = []; close = 0 }
+a_chain = record { name = a_name; serve = None; args = []; vars = []; body = []; close = 0 }
 
 abbrev pub mark : TokenKind → Lexeme
 mark kind = Fixed kind 0

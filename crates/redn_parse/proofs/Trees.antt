@@ -18,7 +18,7 @@ use Rattle.redn_syntax.specs.Grammar as g
 use Rattle.redn_syntax.specs.Grammar.{Phrase, ◌>>◌, SamePlace, HasTree}
 use Rattle.redn_parse.specs.Lookahead.{kind_at}
 use Rattle.redn_parse.specs.Reads.{with_mark}
-use Rattle.redn_parse.proofs.Same.{Ahead, Sees, anything, Same, Begins, weaken, anywhere, ◌and◌, before, marks, past, names, numbers, values, tests, lists, listed, no_else, no_table, no_argument, no_variable, closes, ends, is_end, starts, begins_mark, begins_close, begins_each, begins_weaker, closed, tables, arguments, variables}
+use Rattle.redn_parse.proofs.Same.{Ahead, Sees, anything, Same, Begins, weaken, anywhere, ◌and◌, before, marks, past, names, numbers, values, tests, lists, listed, no_else, no_table, no_argument, no_variable, closes, ends, is_end, starts, begins_mark, begins_close, begins_each, begins_weaker, closed, tables, arguments, variables, openings}
 
 abbrev pub Layer : Type 0
 Layer = StmtKind-F StmtKind Stmt
@@ -278,10 +278,10 @@ argument_lists =
 
 pub chains : (d d' : ℕ) (c c' : Chain) → Same anything (g.chain_within SamePlace d c) (g.chain_within SamePlace d' c') (c ≡ c')
 chains d d' c c' =
-    weaken (past k.Chain (names c.name c'.name and past k.OpenBrace
-    (before (argument_lists c.args c'.args) (no_argument_begins d c) (no_argument_begins d' c')
+    weaken (past k.Chain (names c.name c'.name and (openings c.serve c'.serve and
+    before (argument_lists c.args c'.args) (no_argument_begins d c) (no_argument_begins d' c')
     (before (variable_lists c.vars c'.vars) (no_variable_begins d c) (no_variable_begins d' c') (rests d d' c c')))))
-    (λ e i. record { name = e.0 i; args = e.1.0 i; vars = e.1.1.0 i; body = e.1.1.1.0 i; close = e.1.1.1.1 i })
+    (λ e i. record { name = e.0 i; serve = e.1.0 i; args = e.1.1.0 i; vars = e.1.1.1.0 i; body = e.1.1.1.1.0 i; close = e.1.1.1.1.1 i })
 
 chain_no_end : (d : ℕ) (c : Chain) → Begins (λ kind. not (is_end kind)) (g.chain_within SamePlace d c)
 chain_no_end d c = begins_mark (λ kind. not (is_end kind)) k.Chain refl _

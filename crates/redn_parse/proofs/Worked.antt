@@ -100,7 +100,7 @@ one_closed =
 
 -- ---- places aside
 
-pub least_aside : p.file least_tree ≡ record { tables = []; chains = record { name = name (codes "c") 0; args = []; vars = []; body = stmt 0 (s.Reply (operand.Num (number 5 0) ∷ [])) ∷ []; close = 0 } ∷ [] }
+pub least_aside : p.file least_tree ≡ record { tables = []; chains = record { name = name (codes "c") 0; serve = None; args = []; vars = []; body = stmt 0 (s.Reply (operand.Num (number 5 0) ∷ [])) ∷ []; close = 0 } ∷ [] }
 unfolding p.kind
 least_aside =
     let reply : Stmt = stmt 8 (s.Reply (operand.Num (number 5 14) ∷ [])) in
@@ -109,7 +109,7 @@ least_aside =
 
 -- one byte further on
 abbrev pub moved_tree : File
-moved_tree = record { tables = []; chains = record { name = name (codes "c") 7; args = []; vars = []; body = stmt 9 (s.Reply (operand.Num (number 5 15) ∷ [])) ∷ []; close = 17 } ∷ [] }
+moved_tree = record { tables = []; chains = record { name = name (codes "c") 7; serve = None; args = []; vars = []; body = stmt 9 (s.Reply (operand.Num (number 5 15) ∷ [])) ∷ []; close = 17 } ∷ [] }
 
 pub moved : p.IsSameAside least_tree moved_tree
 unfolding p.kind

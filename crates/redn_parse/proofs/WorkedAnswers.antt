@@ -1,5 +1,5 @@
 -- What readings and answers say, on concrete values.
-use Rattle.std.proofs.Common.{arith, ◌≡◌, ◌+◌, ℕ, zero, suc, cond, List, [], ◌∷◌, ◌++◌, codes, count_by, take, sym, refl, ap, subst, ◌∙◌, Some, Ok, Err}
+use Rattle.std.proofs.Common.{arith, ◌≡◌, ◌+◌, ℕ, zero, suc, cond, List, [], ◌∷◌, ◌++◌, codes, count_by, take, sym, refl, ap, subst, ◌∙◌, Some, Ok, Err, None}
 use Rattle.std.proofs.lemmas.List.Sums.{sum_by-append, sum_by-cons}
 use Rattle.redn_syntax.specs.declared.token.Token.{Token}
 use Rattle.redn_syntax.specs.declared.token.TokenKind.{TokenKind}
@@ -98,7 +98,7 @@ another_argument h = h.2.1 (ap (kind_at 0) (sym h.1))
 -- ---- chains
 
 abbrev pub empty_chain : ℕ → List ℕ → Chain
-empty_chain at text = record { name = name text (at + 6); args = []; vars = []; body = []; close = at + 8 }
+empty_chain at text = record { name = name text (at + 6); serve = None; args = []; vars = []; body = []; close = at + 8 }
 
 abbrev pub its_lexemes : ℕ → List ℕ → List Lexeme
 its_lexemes at text = Fixed k.Chain at ∷ Named text (at + 6) ∷ Fixed k.OpenBrace (at + 7) ∷ Fixed k.CloseBrace (at + 8) ∷ []
@@ -223,7 +223,7 @@ nested_read (suc n) at tail =
     (_, (lexemes, (Fixed k.Loop at, _, refl, refl, refl), a_loop (suc n) body lexemes _ tail (at, refl) block), refl)
 
 abbrev pub deep_tree : File
-deep_tree = record { tables = []; chains = record { name = name (codes "c") 6; args = []; vars = []; body = nested 65 8; close = 0 } ∷ [] }
+deep_tree = record { tables = []; chains = record { name = name (codes "c") 6; serve = None; args = []; vars = []; body = nested 65 8; close = 0 } ∷ [] }
 
 -- up to the brace of the 65th
 abbrev pub deep_front : List Lexeme

@@ -54,7 +54,7 @@ unfoldable pub statement : Stmt → Stmt
 statement = fold-Stmt StmtKind Stmt kind (λ s. record { at = 0; kind = s.kind })
 
 abbrev pub chain : Chain → Chain
-chain c = record { name = name c.name; args = map name c.args; vars = map variable c.vars; body = map statement c.body; close = 0 }
+chain c = record { name = name c.name; serve = option_map number c.serve; args = map name c.args; vars = map variable c.vars; body = map statement c.body; close = 0 }
 
 abbrev pub file : File → File
 file f = record { tables = map table f.tables; chains = map chain f.chains }

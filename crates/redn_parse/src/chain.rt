@@ -76,13 +76,27 @@ fn variables(reader: &mut Reader, alloc: Global) -> Result<Items<VarDecl>, Stop>
     Ok(vars)
 }
 
+/// How many messages a chain serves, or none, and the brace that opens it.
+fn opening(reader: &mut Reader) -> Result<Option<Num>, Stop>
+    ensures reads { Reads (g.opening SamePlace) reader.old reader.new result }
+    ensures moves { OnOk result (length reader.new < length reader.old) }
+{
+    let is_written = either_mark(reader, TokenKind::Serve, TokenKind::OpenBrace)?;
+    if !is_written {
+        return Ok(None);
+    }
+    let number = number_before(reader, TokenKind::OpenBrace)?;
+    Ok(Some(number))
+}
+
 fn chain(reader: &mut Reader, alloc: Global) -> Result<Chain, Stop>
     ensures reads { ReadsWithin (g.chain_within SamePlace) g.nothing 64 0
         reader.old reader.new result }
     ensures moves { OnOk result (length reader.new < length reader.old) }
 {
     reader.mark(TokenKind::Chain)?;
-    let name = name_before(reader, alloc, TokenKind::OpenBrace)?;
+    let name = reader.name(alloc)?;
+    let serve = opening(reader)?;
     let args = arguments(reader, alloc)?;
     let vars = variables(reader, alloc)?;
     let body = body(reader, alloc, MAX_DEPTH)?;
@@ -90,6 +104,7 @@ fn chain(reader: &mut Reader, alloc: Global) -> Result<Chain, Stop>
     reader.mark(TokenKind::CloseBrace)?;
     Ok(Chain {
         name,
+        serve,
         args,
         vars,
         body,

@@ -17,7 +17,7 @@ use Rattle.redn_sched.specs.MadeSchedules.{Cursors, first_cursors, fair_from, fa
 use Rattle.redn_gen.specs.Generated.{below, chain_count, generated_messages}
 use Rattle.redn_gen.specs.Runs.{is_reply_of, NoneRuns, ChainsReply, EachChainReplies, generated_start}
 use Rattle.redn_summary.specs.declared.run.Counted.{Counted}
-use Rattle.redn_summary.specs.declared.run.TheConstants.{MOST_STEPS}
+use Rattle.redn_summary.specs.declared.run.TheConstants.{MAX_SUMMARY_STEPS}
 use Rattle.redn_summary.specs.Counting.{Counts, replies_text, told}
 use Rattle.redn_summary.specs.Summary.{counted, generated_program, generated_run, reply_line, summary}
 use Rattle.redn_summary.proofs.Chains.{fair_below}
@@ -50,7 +50,7 @@ texts : (n : ℕ) (i : Image) (v s : ℕ) (r q : List ℕ) → v ≡ 4003 * chai
     counted (codes "gen ") n ++ counted (codes "chains ") (chain_count n) ++ counted (codes "events ") v ++ counted (codes "steps ") s ++ r ++ q ≡ summary n i
 texts n i v s r q ev st re en = rw (ev, st, re, en) refl
 
-module _ (n : ℕ) (low : n < 2 ^ 32) (law : EachChainReplies) (i : Image) (faithful : Faithful (generated_program n) i) (most : ℕ) (is : most ≡ MOST_STEPS) where
+module _ (n : ℕ) (low : n < 2 ^ 32) (law : EachChainReplies) (i : Image) (faithful : Faithful (generated_program n) i) (most : ℕ) (is : most ≡ MAX_SUMMARY_STEPS) where
   abbrev first : State
   first = start_of i (generated_messages n)
 

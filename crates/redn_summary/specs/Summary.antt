@@ -8,14 +8,14 @@ use Rattle.redn_image.specs.Rules.{Image}
 use Rattle.redn_image.specs.Faithful.{start_of}
 use Rattle.redn_sched.specs.MadeSchedules.{fair}
 use Rattle.redn_gen.specs.Generated.{below, chain_count, sought, generated_file, generated_messages}
-use Rattle.redn_summary.specs.declared.run.TheConstants.{MOST_STEPS}
+use Rattle.redn_summary.specs.declared.run.TheConstants.{MAX_SUMMARY_STEPS}
 
 abbrev pub generated_program : ℕ → Program
 generated_program n = program_of (generated_file n)
 
 -- the fair actions on an image, from its start with the generated messages
 abbrev pub generated_run : ℕ → Image → List Action
-generated_run n image = fair MOST_STEPS (start_of image (generated_messages n))
+generated_run n image = fair MAX_SUMMARY_STEPS (start_of image (generated_messages n))
 
 -- a word and a number
 abbrev pub counted : List ℕ → ℕ → List ℕ

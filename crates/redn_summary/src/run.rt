@@ -13,7 +13,7 @@ use std::alloc::Global;
 
 /// How many steps the run may take. It needs fewer: at most four chains take at most 6,004 source
 /// steps each, and a source step takes at most 160 useful actions.
-pub const MOST_STEPS: u64 = 8_000_000;
+pub const MAX_SUMMARY_STEPS: u64 = 8_000_000;
 
 /// What a run did: how many steps it made, how many events they showed, and the replies among them.
 #[derive(Drop)]

@@ -8,12 +8,13 @@ ghost use Rattle.redn_gen.specs.Runs.{is_reply_of};
 ghost use Rattle.redn_summary.specs.Counting.{replies_text, told};
 ghost use Rattle.redn_summary.specs.Summary.{counted as counted_line, generated_program, summary as summary_of};
 
-use crate::run::{Counted, MOST_STEPS, count_run};
+use crate::run::{Counted, MAX_SUMMARY_STEPS, count_run};
 use redn_adapter::{OpenFault, open};
 use redn_gen::{each_chain_replies, gen_messages};
 use redn_image::Image;
 use redn_sched::Fair;
-use redn_trace::{event_line, put_number};
+use redn_text::put_number;
+use redn_trace::event_line;
 use redn_words::{Memory, Obs};
 use std::alloc::Global;
 
@@ -66,7 +67,7 @@ fn add_replies(text: &mut Vec<u8>, replies: &[Obs], chain: u32) -> Result<(), Me
 /// What is told of a run of so many chains.
 fn tell(alloc: Global, number: u32, chains: u32, counted: &Counted) -> Result<Vec<u8>, Memory>
     requires { All IsPrintable counted.now.replies.items }
-    ensures { IfOk result (λ text. text.items ≡ told number chains MOST_STEPS counted.now) }
+    ensures { IfOk result (λ text. text.items ≡ told number chains MAX_SUMMARY_STEPS counted.now) }
 {
     let mut text = Vec::new(alloc);
     add_line(&mut text, b"gen ", u64::from(number))?;
@@ -76,7 +77,7 @@ fn tell(alloc: Global, number: u32, chains: u32, counted: &Counted) -> Result<Ve
     for chain in 0..chains {
         add_replies(&mut text, &counted.replies, chain)?;
     }
-    let end: &[u8] = if counted.steps == MOST_STEPS {
+    let end: &[u8] = if counted.steps == MAX_SUMMARY_STEPS {
         b"end steps\n"
     } else {
         b"end quiet\n"
@@ -101,6 +102,6 @@ pub fn summary(alloc: Global, image: Image, number: u32) -> Result<Vec<u8>, Memo
         Err(OpenFault::Memory) => return Err(Memory),
     };
     let mut fair = Fair::new(alloc, &adapter)?;
-    let counted = count_run(alloc, &mut adapter, &mut fair, MOST_STEPS)?;
+    let counted = count_run(alloc, &mut adapter, &mut fair, MAX_SUMMARY_STEPS)?;
     tell(alloc, number, chains, &counted)
 }

@@ -133,9 +133,13 @@ block_within zero body = never
 block_within (suc depth) body =
     marked k.OpenBrace then (each _ _ (statement _ _ (block_within depth)) body then marked k.CloseBrace)
 
+opening : (o : Option Num) → Aside (g.opening SamePlace o) (g.opening AnyPlace o)
+opening None = marked k.OpenBrace
+opening (Some n) = marked k.Serve then (numbered n then marked k.OpenBrace)
+
 chain_within : (depth : ℕ) (c : Chain) → Aside (g.chain_within SamePlace depth c) (g.chain_within AnyPlace depth c)
 chain_within depth c =
-    marked k.Chain then (named c.name then (marked k.OpenBrace then (each _ _ argument c.args then (each _ _ variable c.vars
+    marked k.Chain then (named c.name then (opening c.serve then (each _ _ argument c.args then (each _ _ variable c.vars
     then (each _ _ (statement _ _ (block_within depth)) c.body then marked_at k.CloseBrace c.close)))))
 
 file_within : (depth : ℕ) (f : File) → Aside (g.file_within SamePlace depth f) (g.file_within AnyPlace depth f)

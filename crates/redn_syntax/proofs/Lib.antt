@@ -6,4 +6,4 @@ pub mod Aside
 pub mod Printed
 pub mod ReadBack
 pub mod Worked
-pub mod Readings
+pub mod WorkedReadings

@@ -253,10 +253,14 @@ block_within (suc depth) body =
     regrouped (ap (λ l. c.mark k.OpenBrace ++ l ++ c.mark k.CloseBrace) (sym (body_of_is body)))
     (marked k.OpenBrace tt then (each _ c.statement (statement _ (block_within depth)) body then marked k.CloseBrace tt))
 
+opening : (o : Option Num) → Prints (g.opening AnyPlace o) (c.opening o)
+opening None = marked k.OpenBrace tt
+opening (Some n) = regrouped (simp append_assoc) (marked k.Serve tt then (numbered n then marked k.OpenBrace tt))
+
 chain_within : (depth : ℕ) (x : Chain) → Prints (g.chain_within AnyPlace depth x) (c.chain x)
 chain_within depth x =
     regrouped (simp append_assoc)
-    (marked k.Chain tt then (named x.name then (marked k.OpenBrace tt then (each _ c.argument argument x.args then (each _ c.variable variable x.vars
+    (marked k.Chain tt then (named x.name then (opening x.serve then (each _ c.argument argument x.args then (each _ c.variable variable x.vars
     then (each _ c.statement (statement _ (block_within depth)) x.body then marked_at k.CloseBrace x.close tt))))))
 
 some : (depth : ℕ) (xs : List Chain) → Prints (g.some (g.chain_within AnyPlace depth) xs) (flat_map c.chain xs)

@@ -376,7 +376,7 @@ abbrev pub file_table : Table
 file_table = record { name = name (codes "t") 6; length = number 24 8; writable = false; items = record { at = Some (number 8 19); word = number 1 22 } ∷ record { at = None; word = number 5 25 } ∷ [] }
 
 abbrev pub file_chain : Chain
-file_chain = record { name = name (codes "c") 36; args = (name (codes "a") 44) ∷ []; vars = record { name = name (codes "v") 51; first = Some (number 3 55) } ∷ record { name = name (codes "w") 62; first = None } ∷ []; body = (stmt 65 (s.Reply ((operand.Name (name (codes "v") 71)) ∷ []))) ∷ []; close = 74 }
+file_chain = record { name = name (codes "c") 36; serve = None; args = (name (codes "a") 44) ∷ []; vars = record { name = name (codes "v") 51; first = Some (number 3 55) } ∷ record { name = name (codes "w") 62; first = None } ∷ []; body = (stmt 65 (s.Reply ((operand.Name (name (codes "v") 71)) ∷ []))) ∷ []; close = 74 }
 
 abbrev pub file_tree : File
 file_tree = record { tables = file_table ∷ []; chains = file_chain ∷ [] }
@@ -402,7 +402,7 @@ unfolding kind_in kinds
 least_tokenized = tokenizes_by least_text least_tokens refl
 
 abbrev pub least_chain : Chain
-least_chain = record { name = name (codes "c") 6; args = []; vars = []; body = (stmt 8 (s.Reply ((operand.Num (number 5 14)) ∷ []))) ∷ []; close = 16 }
+least_chain = record { name = name (codes "c") 6; serve = None; args = []; vars = []; body = (stmt 8 (s.Reply ((operand.Num (number 5 14)) ∷ []))) ∷ []; close = 16 }
 
 abbrev pub least_tree : File
 least_tree = record { tables = []; chains = least_chain ∷ [] }
@@ -414,6 +414,33 @@ least_read = (_, refl, (_, (_, (0, refl), (_, (6, refl, refl), (_, (7, refl), (_
 pub least_printed : canonical_text least_tree ≡ codes "chain c { reply 5 ; }\n"
 unfolding c.form
 least_printed = rw (statement_is (stmt 8 (s.Reply ((operand.Num (number 5 14)) ∷ []))) _ _ refl (s.outs-Reply _), decimal_digit 5 (omega arith)) refl
+
+-- ---- a chain that serves three messages
+
+abbrev pub serving_text : List ℕ
+serving_text = codes "chain c serve 3{reply 5;}"
+
+abbrev pub serving_tokens : List Token
+serving_tokens = t k.Chain 0 5 ∷ t k.Name 6 1 ∷ t k.Serve 8 5 ∷ number_token 14 1 3 ∷ t k.OpenBrace 15 1 ∷ t k.Reply 16 5 ∷ number_token 22 1 5 ∷ t k.Semicolon 23 1 ∷ t k.CloseBrace 24 1 ∷ []
+
+pub serving_tokenized : Tokenizes serving_text serving_tokens
+unfolding kind_in kinds
+serving_tokenized = tokenizes_by serving_text serving_tokens refl
+
+abbrev pub serving_chain : Chain
+serving_chain = record { name = name (codes "c") 6; serve = Some (number 3 14); args = []; vars = []; body = (stmt 16 (s.Reply ((operand.Num (number 5 22)) ∷ []))) ∷ []; close = 24 }
+
+abbrev pub serving_tree : File
+serving_tree = record { tables = []; chains = serving_chain ∷ [] }
+
+pub serving_read : HasTreeWithin 1 serving_text serving_tokens serving_tree
+unfolding g.form
+serving_read =
+    (_, refl, (_, (_, (0, refl), (_, (6, refl, refl), (_, (_, (8, refl), (_, (14, refl, refl), (15, refl))), (_, refl, (_, refl, (_, (_, (reads 1 _ _ _ _ _ _ refl (s.outs-Reply _) refl (_, (16, refl), (_, (_, (22, refl, refl), refl), (23, refl)))), refl), (24, refl, refl))))))), refl))
+
+pub serving_printed : canonical_text serving_tree ≡ codes "chain c serve 3 { reply 5 ; }\n"
+unfolding c.form
+serving_printed = rw (statement_is (stmt 16 (s.Reply ((operand.Num (number 5 22)) ∷ []))) _ _ refl (s.outs-Reply _), decimal_digit 5 (omega arith), decimal_digit 3 (omega arith)) refl
 
 pub least_writable : (f : File) → f ≡ least_tree → IsWritable f
 least_writable f e = writable least_text least_tokens f least_tokenized (1, subst (λ f. HasTreeWithin 1 least_text least_tokens f) (sym e) least_read)

@@ -102,9 +102,13 @@ statement = fold-Stmt (List Lexeme) (List Lexeme) form (λ s. s.kind)
 abbrev pub body_of : List Stmt → List Lexeme
 body_of body = flat_map statement body
 
+abbrev pub opening : Option Num → List Lexeme
+opening None = mark k.OpenBrace
+opening (Some n) = mark k.Serve ++ number n ++ mark k.OpenBrace
+
 abbrev pub chain : Chain → List Lexeme
 chain c =
-    mark k.Chain ++ name c.name ++ mark k.OpenBrace ++ flat_map argument c.args ++ flat_map variable c.vars
+    mark k.Chain ++ name c.name ++ opening c.serve ++ flat_map argument c.args ++ flat_map variable c.vars
     ++ body_of c.body ++ mark k.CloseBrace
 
 abbrev pub file : File → List Lexeme

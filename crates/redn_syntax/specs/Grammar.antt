@@ -221,11 +221,19 @@ module _ (Stands : ℕ → ℕ → Type 0) where
     each (statement (block_within depth)) body
     mark k.CloseBrace
 
+  -- how many messages a chain serves, where that is written, and the brace that opens it
+  abbrev pub opening : Option Num → Phrase
+  opening None = mark k.OpenBrace
+  opening (Some n) = do
+    mark k.Serve
+    number n
+    mark k.OpenBrace
+
   abbrev pub chain_within : ℕ → Chain → Phrase
   chain_within depth c = do
     mark k.Chain
     name c.name
-    mark k.OpenBrace
+    opening c.serve
     each argument c.args
     each variable c.vars
     each (statement (block_within depth)) c.body

@@ -438,16 +438,28 @@ fn put_variables(out: &mut String, vars: &[VarDecl]) -> Result<(), Memory>
     Ok(())
 }
 
+/// How many messages a chain serves, where that is written, and the brace that opens it.
+fn put_opening(out: &mut String, serve: Option<Num>) -> Result<(), Memory>
+    ensures { OnOk result (string_bytes out.new
+        ≡ string_bytes out.old ++ spaced (canonical.opening serve)) }
+{
+    if let Some(number) = serve {
+        put_mark(out, TokenKind::Serve)?;
+        put_number(out, number)?;
+    }
+    put_mark(out, TokenKind::OpenBrace)
+}
+
 /// A chain up to its first statement.
 fn put_head(out: &mut String, chain: &Chain) -> Result<(), Memory>
     ensures { OnOk result (string_bytes out.new ≡ string_bytes out.old ++ spaced (
         canonical.mark TokenKind.Chain ++ canonical.name chain.now.name
-        ++ canonical.mark TokenKind.OpenBrace ++ flat_map canonical.argument chain.now.args
+        ++ canonical.opening chain.now.serve ++ flat_map canonical.argument chain.now.args
         ++ flat_map canonical.variable chain.now.vars)) }
 {
     put_mark(out, TokenKind::Chain)?;
     put_name(out, &chain.name)?;
-    put_mark(out, TokenKind::OpenBrace)?;
+    put_opening(out, chain.serve)?;
     put_arguments(out, chain.args.as_slice())?;
     put_variables(out, chain.vars.as_slice())
 }

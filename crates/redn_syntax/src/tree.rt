@@ -47,10 +47,12 @@ pub struct Item {
     pub word: Num,
 }
 
-/// A chain. `close` is the place of its closing brace.
+/// A chain, and how many messages it serves, which is 1 where none is written. `close` is the place of
+/// its closing brace.
 #[derive(Debug, Drop)]
 pub struct Chain {
     pub name: Name,
+    pub serve: Option<Num>,
     pub args: Items<Name>,
     pub vars: Items<VarDecl>,
     pub body: Items<Stmt>,

@@ -5,9 +5,10 @@ ghost use Rattle.redn_kernel.specs.Program.{IsSound};
 
 use crate::echo::ECHO;
 use redn_check::check;
-use redn_kernel::{Program, SourceAnswer, SourceState, StartFault};
+use redn_kernel::Program;
 use redn_lex::lex;
 use redn_parse::parse;
+use redn_source::{SourceAnswer, SourceState, StartFault};
 use redn_words::{Messages, Obs};
 use std::alloc::Global;
 use std::test::Fail;

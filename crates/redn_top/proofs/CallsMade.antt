@@ -6,7 +6,7 @@ use Rattle.redn_outside.specs.Calls.{Call, Reads, Writes, and_calls}
 use Rattle.redn_outside.specs.Files.{Files}
 use Rattle.redn_outside.specs.Seen.{StoreSeen, SinkSeen}
 use Rattle.redn_command.specs.Words.{Command, Plan, Schedule, Fair, Shuffle, RunWords, MessageWord}
-use Rattle.redn_top.specs.declared.limits.TheConstants.{SCHEDULE_LIMIT}
+use Rattle.redn_top.specs.declared.limits.TheConstants.{MAX_SCHEDULE}
 use Rattle.redn_top.specs.declared.status.Status.{Status}
 use Rattle.redn_top.specs.declared.status.Status.TheVariants.{Done, Words, Schedule as BadSchedule, ReadFailed, Missing, WriteFailed, Long, Text, Program as ProgramRefused, Image as ImageRefused, Memory, Step, Message}
 use Rattle.redn_top.specs.Answers.{status_of}
@@ -71,21 +71,21 @@ module _ (told : Option Files) (name : List ℕ) (limit : ℕ) (plan : Plan) (be
 
 -- the schedule is read behind a file that is held
 module _ (told : Option Files) (name : List ℕ) (limit : ℕ) (file : List ℕ) (before mid now : StoreSeen) (read : mid.calls ≡ and_calls (Reads name limit ∷ []) before.calls) (text : List ℕ) (held : IsHeld told name limit text) (later : Option Files) where
-  at_second : GrewBy (EndAtRead later (Reads file SCHEDULE_LIMIT ∷ [])) mid now → GrewBy (EndAtRead told (run_reads name limit (Schedule file))) before now
-  at_second (made, h, e) = (Reads name limit ∷ Reads file SCHEDULE_LIMIT ∷ [], ended, both (Reads name limit ∷ []) (Reads file SCHEDULE_LIMIT ∷ []) before mid now read (e ∙ ap (λ (l : List Call). and_calls l mid.calls) (only h.earlier h.all_are h.made_are)))
+  at_second : GrewBy (EndAtRead later (Reads file MAX_SCHEDULE ∷ [])) mid now → GrewBy (EndAtRead told (run_reads name limit (Schedule file))) before now
+  at_second (made, h, e) = (Reads name limit ∷ Reads file MAX_SCHEDULE ∷ [], ended, both (Reads name limit ∷ []) (Reads file MAX_SCHEDULE ∷ []) before mid now read (e ∙ ap (λ (l : List Call). and_calls l mid.calls) (only h.earlier h.all_are h.made_are)))
     where
-      ended : EndAtRead told (run_reads name limit (Schedule file)) (Reads name limit ∷ Reads file SCHEDULE_LIMIT ∷ [])
-      ended = record { earlier = Reads name limit ∷ []; here = Reads file SCHEDULE_LIMIT; later = []; all_are = refl; made_are = refl; passed = ((Some text, held.found, read_passed text limit held.fits), tt) }
+      ended : EndAtRead told (run_reads name limit (Schedule file)) (Reads name limit ∷ Reads file MAX_SCHEDULE ∷ [])
+      ended = record { earlier = Reads name limit ∷ []; here = Reads file MAX_SCHEDULE; later = []; all_are = refl; made_are = refl; passed = ((Some text, held.found, read_passed text limit held.fits), tt) }
 
-      only : (earlier : List Call) → Reads file SCHEDULE_LIMIT ∷ [] ≡ earlier ++ h.here ∷ h.later → made ≡ earlier ++ h.here ∷ [] → made ≡ Reads file SCHEDULE_LIMIT ∷ []
-      only [] a m = let same : h.here ≡ Reads file SCHEDULE_LIMIT = cc in m ∙ ap (λ (c : Call). c ∷ []) same
+      only : (earlier : List Call) → Reads file MAX_SCHEDULE ∷ [] ≡ earlier ++ h.here ∷ h.later → made ≡ earlier ++ h.here ∷ [] → made ≡ Reads file MAX_SCHEDULE ∷ []
+      only [] a m = let same : h.here ≡ Reads file MAX_SCHEDULE = cc in m ∙ ap (λ (c : Call). c ∷ []) same
       only (c ∷ []) a m = absurd (cc)
       only (c ∷ d ∷ rest) a m = absurd (cc)
 
-  second_wanted : GrewBy (AreFirst (Reads file SCHEDULE_LIMIT ∷ [])) mid now → GrewBy (AreFirst (run_reads name limit (Schedule file))) before now
+  second_wanted : GrewBy (AreFirst (Reads file MAX_SCHEDULE ∷ [])) mid now → GrewBy (AreFirst (run_reads name limit (Schedule file))) before now
   second_wanted (made, h, e) = (Reads name limit ∷ made, (h.0, ap (λ (l : List Call). Reads name limit ∷ l) h.1), both (Reads name limit ∷ []) made before mid now read e)
 
-  pub second_unread : (s : Status) → GrewBy (ReadsMade later (Reads file SCHEDULE_LIMIT ∷ []) s) mid now → GrewBy (ReadsMade told (run_reads name limit (Schedule file)) s) before now
+  pub second_unread : (s : Status) → GrewBy (ReadsMade later (Reads file MAX_SCHEDULE ∷ []) s) mid now → GrewBy (ReadsMade told (run_reads name limit (Schedule file)) s) before now
   second_unread Memory h = second_wanted h
   second_unread Done h = at_second h
   second_unread Words h = at_second h
@@ -99,9 +99,6 @@ module _ (told : Option Files) (name : List ℕ) (limit : ℕ) (file : List ℕ)
   second_unread (BadSchedule line) h = at_second h
   second_unread (Step line) h = at_second h
   second_unread (Message fault) h = at_second h
-
-  pub second_read : now.calls ≡ and_calls (Reads file SCHEDULE_LIMIT ∷ []) mid.calls → now.calls ≡ and_calls (run_reads name limit (Schedule file)) before.calls
-  second_read e = both (Reads name limit ∷ []) (Reads file SCHEDULE_LIMIT ∷ []) before mid now read e
 
 -- ---- each command
 

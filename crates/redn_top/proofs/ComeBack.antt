@@ -8,7 +8,7 @@ use Rattle.redn_disasm.specs.Assembly.{Assembles, Made}
 use Rattle.redn_disasm.specs.Laws.{ListingsAreOfOne, ListingsAreShort, ListingsComeBack, OneMeaning}
 use Rattle.redn_disasm.specs.Listing.{IsListing, listing_text}
 use Rattle.redn_command.specs.Words.{Assemble, Disasm}
-use Rattle.redn_top.specs.declared.limits.TheConstants.{IMAGE_LIMIT, LISTING_LIMIT}
+use Rattle.redn_top.specs.declared.limits.TheConstants.{MAX_IMAGE, MAX_LISTING}
 use Rattle.redn_top.specs.Reasons.{NoneHolds, image_reasons, listing_reasons, read_reasons, reasons}
 use Rattle.redn_top.specs.Answers.{Written}
 use Rattle.redn_top.specs.Laws.{ListedFilesComeBack, WritesAgain}
@@ -20,7 +20,7 @@ module _ (one : OneImage) (again : OneSpelling) (accepted : NotRefused) (meaning
   -- what is assembled of the listing of an image
   assembled : (listing other : List ℕ) (bytes : List ℕ) (image : Image) → Spells bytes image → (text : List ℕ) → IsListing text image → WritesAgain listing other bytes text
   assembled listing other bytes image spells text l j t empty written found (inl h) =
-      let none = none_both (read_reasons (Some text) LISTING_LIMIT) (listing_reasons (Some text)) (read_passed text LISTING_LIMIT (short text image l)) (listing_none text meaning (numbers_of image) image.memory (back text image l)) in
+      let none = none_both (read_reasons (Some text) MAX_LISTING) (listing_reasons (Some text)) (read_passed text MAX_LISTING (short text image l)) (listing_none text meaning (numbers_of image) image.memory (back text image l)) in
       absurd (none_first (reasons (Assemble listing other) j) (subst (λ (o : Option (List ℕ)). NoneHolds (reasons (Assemble listing other) (record { first = o; schedule = j.schedule }))) (sym found) none) t h.0)
   assembled listing other bytes image spells text l j t empty written found (inr h) =
       let a = h.1.0 in
@@ -32,7 +32,7 @@ module _ (one : OneImage) (again : OneSpelling) (accepted : NotRefused) (meaning
 
   pub come_back : ListedFilesComeBack
   come_back name listing other bytes image spells are small i s text none found (inl h) =
-      let free = none_both (read_reasons (Some bytes) IMAGE_LIMIT) (image_reasons (Some bytes)) (read_passed bytes IMAGE_LIMIT small) (image_none bytes (accepted bytes image spells)) in
+      let free = none_both (read_reasons (Some bytes) MAX_IMAGE) (image_reasons (Some bytes)) (read_passed bytes MAX_IMAGE small) (image_none bytes (accepted bytes image spells)) in
       absurd (none_first (reasons (Disasm name) i) (subst (λ (o : Option (List ℕ)). NoneHolds (reasons (Disasm name) (record { first = o; schedule = i.schedule }))) (sym found) free) s h.0)
   come_back name listing other bytes image spells are small i s text none found (inr h) =
       let l = h.1.0 in

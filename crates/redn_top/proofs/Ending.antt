@@ -16,7 +16,7 @@ use Rattle.redn_disasm.specs.Listing.{listing_text}
 use Rattle.redn_image.specs.Rules.{Image, numbers_of}
 use Rattle.redn_image.specs.Spelling.{Spells, spelling}
 use Rattle.redn_image.specs.Faithful.{Faithful}
-use Rattle.redn_top.specs.declared.limits.TheConstants.{FILE_LIMIT, IMAGE_LIMIT, LISTING_LIMIT}
+use Rattle.redn_top.specs.declared.limits.TheConstants.{MAX_FILE, MAX_IMAGE, MAX_LISTING}
 use Rattle.redn_top.specs.declared.status.Status.{Status}
 use Rattle.redn_top.specs.declared.status.Status.TheVariants.{Done, Words, Schedule as BadSchedule, ReadFailed, Missing, WriteFailed, Long, Text, Program as ProgramRefused, Image as ImageRefused, Memory, Step, Message}
 use Rattle.redn_command.specs.Words.{Command, Check, Compile, Disasm, Assemble}
@@ -103,22 +103,22 @@ one_file text = record { first = Some text; schedule = None }
 
 -- check FILE
 module _ (file : List ℕ) (before now : StoreSeen) (out : SinkSeen) (told : now.told ≡ before.told) where
-  pub check_unread : (s : Status) → ReadRefused before.told file FILE_LIMIT before now s → Ends (Check file) before now out out s
+  pub check_unread : (s : Status) → ReadRefused before.told file MAX_FILE before now s → Ends (Check file) before now out out s
   check_unread s r =
       let i : Input = record { first = r.file; schedule = None } in
-      reads_end (Check file) before now out told i r.found s (reads_map (read_reasons r.file FILE_LIMIT) (reasons (Check file) i) (first_here (read_reasons r.file FILE_LIMIT) (source_reasons r.file)) before now s r.refuses)
+      reads_end (Check file) before now out told i r.found s (reads_map (read_reasons r.file MAX_FILE) (reasons (Check file) i) (first_here (read_reasons r.file MAX_FILE) (source_reasons r.file)) before now s r.refuses)
 
-  pub check_refused : (text : List ℕ) → IsHeld before.told file FILE_LIMIT text → (s : Status) → SourceRefused text s → Ends (Check file) before now out out s
+  pub check_refused : (text : List ℕ) → IsHeld before.told file MAX_FILE text → (s : Status) → SourceRefused text s → Ends (Check file) before now out out s
   unfolding one_file
   check_refused text held s h =
       contents_end (Check file) before now out told (one_file text) held.found s
-      (refuses_map (source_reasons (Some text)) (reasons (Check file) (one_file text)) (λ t. first_behind (read_reasons (Some text) FILE_LIMIT) (source_reasons (Some text)) t (read_passed text FILE_LIMIT held.fits)) s (source_refused text s h))
+      (refuses_map (source_reasons (Some text)) (reasons (Check file) (one_file text)) (λ t. first_behind (read_reasons (Some text) MAX_FILE) (source_reasons (Some text)) t (read_passed text MAX_FILE held.fits)) s (source_refused text s h))
 
-  pub check_put : (text printed : List ℕ) (f : File) → IsHeld before.told file FILE_LIMIT text → IsTextOf text f → Accepts f → printed ≡ canonical_text f → (out_now : SinkSeen) (r : Result (Unit {0}) Status) → OnOk r (out_now.told ≡ option_map (λ t. t ++ printed) out.told) → IfErr r (PutRefused printed out out_now) → Ends (Check file) before now out out_now (status_of r)
+  pub check_put : (text printed : List ℕ) (f : File) → IsHeld before.told file MAX_FILE text → IsTextOf text f → Accepts f → printed ≡ canonical_text f → (out_now : SinkSeen) (r : Result (Unit {0}) Status) → OnOk r (out_now.told ≡ option_map (λ t. t ++ printed) out.told) → IfErr r (PutRefused printed out out_now) → Ends (Check file) before now out out_now (status_of r)
   unfolding one_file
   check_put text printed f held read accepted is out_now r ok err =
       let means : Means text (program_of f) = record { file = f; read = read; accepted = accepted; is = refl } in
-      let none : NoneHolds (reasons (Check file) (one_file text)) = none_both (read_reasons (Some text) FILE_LIMIT) (source_reasons (Some text)) (read_passed text FILE_LIMIT held.fits) (means_none text (program_of f) means) in
+      let none : NoneHolds (reasons (Check file) (one_file text)) = none_both (read_reasons (Some text) MAX_FILE) (source_reasons (Some text)) (read_passed text MAX_FILE held.fits) (means_none text (program_of f) means) in
       put_ends r ok err none where
         put_ends : (r : Result (Unit {0}) Status) → OnOk r (out_now.told ≡ option_map (λ t. t ++ printed) out.told) → IfErr r (PutRefused printed out out_now) → NoneHolds (reasons (Check file) (one_file text)) → Ends (Check file) before now out out_now (status_of r)
         put_ends (Ok done) e h none = record {
@@ -156,22 +156,22 @@ module _ (file : List ℕ) (before now : StoreSeen) (out : SinkSeen) (told : now
 
 -- compile FILE IMAGE
 module _ (file name : List ℕ) (before mid : StoreSeen) (out : SinkSeen) (keeps : KeepsFiles before mid) where
-  pub compile_unread : (s : Status) → ReadRefused before.told file FILE_LIMIT before mid s → Ends (Compile file name) before mid out out s
+  pub compile_unread : (s : Status) → ReadRefused before.told file MAX_FILE before mid s → Ends (Compile file name) before mid out out s
   compile_unread s r =
       let i : Input = record { first = r.file; schedule = None } in
-      reads_end (Compile file name) before mid out keeps.told i r.found s (reads_map (read_reasons r.file FILE_LIMIT) (reasons (Compile file name) i) (first_here (read_reasons r.file FILE_LIMIT) (source_reasons r.file)) before mid s r.refuses)
+      reads_end (Compile file name) before mid out keeps.told i r.found s (reads_map (read_reasons r.file MAX_FILE) (reasons (Compile file name) i) (first_here (read_reasons r.file MAX_FILE) (source_reasons r.file)) before mid s r.refuses)
 
-  module _ (text : List ℕ) (held : IsHeld before.told file FILE_LIMIT text) where
+  module _ (text : List ℕ) (held : IsHeld before.told file MAX_FILE text) where
     pub compile_refused : (s : Status) → Refuses (source_reasons (Some text)) s → Ends (Compile file name) before mid out out s
     unfolding one_file
     compile_refused s h =
         contents_end (Compile file name) before mid out keeps.told (one_file text) held.found s
-        (refuses_map (source_reasons (Some text)) (reasons (Compile file name) (one_file text)) (λ t. first_behind (read_reasons (Some text) FILE_LIMIT) (source_reasons (Some text)) t (read_passed text FILE_LIMIT held.fits)) s h)
+        (refuses_map (source_reasons (Some text)) (reasons (Compile file name) (one_file text)) (λ t. first_behind (read_reasons (Some text) MAX_FILE) (source_reasons (Some text)) t (read_passed text MAX_FILE held.fits)) s h)
 
-    module _ (p : Program) (means : Means text p) (accepted : NoneHolds (source_reasons (Some text))) (image : Image) (faithful : Faithful p image) (small : length (spelling image) ≤ IMAGE_LIMIT) (now : StoreSeen) (others : OthersStay name mid.told now.told) where
+    module _ (p : Program) (means : Means text p) (accepted : NoneHolds (source_reasons (Some text))) (image : Image) (faithful : Faithful p image) (small : length (spelling image) ≤ MAX_IMAGE) (now : StoreSeen) (others : OthersStay name mid.told now.told) where
       compile_none : NoneHolds (reasons (Compile file name) (one_file text))
       unfolding one_file
-      compile_none = none_both (read_reasons (Some text) FILE_LIMIT) (source_reasons (Some text)) (read_passed text FILE_LIMIT held.fits) accepted
+      compile_none = none_both (read_reasons (Some text) MAX_FILE) (source_reasons (Some text)) (read_passed text MAX_FILE held.fits) accepted
 
       pub compile_written : (r : Result (Unit {0}) Status) → OnOk r ((bytes : List ℕ) × Spells bytes image × (now.told ≡ option_map (with_file name bytes) mid.told)) → IfErr r (WriteRefused mid now) → Ends (Compile file name) before now out out (status_of r)
       unfolding one_file
@@ -182,7 +182,7 @@ module _ (file name : List ℕ) (before mid : StoreSeen) (out : SinkSeen) (keeps
             printed = [];
             written = written;
             is_input = held.found;
-            answers = inr (compile_none, ((image, record { source = text; program = p; bytes = w.0; found = refl; means = means; spells = w.1; faithful = faithful; small = subst (λ (b : List ℕ). length b ≤ IMAGE_LIMIT) (sym w.1.bytes_are) small; writes = refl }), refl, refl));
+            answers = inr (compile_none, ((image, record { source = text; program = p; bytes = w.0; found = refl; means = means; spells = w.1; faithful = faithful; small = subst (λ (b : List ℕ). length b ≤ MAX_IMAGE) (sym w.1.bytes_are) small; writes = refl }), refl, refl));
             holds = w.2 ∙ ap (option_map (with_file name w.0)) keeps.told ∙ written_one name w.0 before.told;
             prints = told_nothing out.told;
           }
@@ -195,22 +195,22 @@ listing_some i e = some_before (codes "redn 1\n") _ (λ n. absurd (cc)) e
 
 -- disasm IMAGE
 module _ (name : List ℕ) (before now : StoreSeen) (out : SinkSeen) (told : now.told ≡ before.told) where
-  pub disasm_unread : (s : Status) → ReadRefused before.told name IMAGE_LIMIT before now s → Ends (Disasm name) before now out out s
+  pub disasm_unread : (s : Status) → ReadRefused before.told name MAX_IMAGE before now s → Ends (Disasm name) before now out out s
   disasm_unread s r =
       let i : Input = record { first = r.file; schedule = None } in
-      reads_end (Disasm name) before now out told i r.found s (reads_map (read_reasons r.file IMAGE_LIMIT) (reasons (Disasm name) i) (first_here (read_reasons r.file IMAGE_LIMIT) (image_reasons r.file)) before now s r.refuses)
+      reads_end (Disasm name) before now out told i r.found s (reads_map (read_reasons r.file MAX_IMAGE) (reasons (Disasm name) i) (first_here (read_reasons r.file MAX_IMAGE) (image_reasons r.file)) before now s r.refuses)
 
-  module _ (bytes : List ℕ) (held : IsHeld before.told name IMAGE_LIMIT bytes) where
+  module _ (bytes : List ℕ) (held : IsHeld before.told name MAX_IMAGE bytes) where
     pub disasm_refused : (s : Status) → Refuses (image_reasons (Some bytes)) s → Ends (Disasm name) before now out out s
     unfolding one_file
     disasm_refused s h =
         contents_end (Disasm name) before now out told (one_file bytes) held.found s
-        (refuses_map (image_reasons (Some bytes)) (reasons (Disasm name) (one_file bytes)) (λ t. first_behind (read_reasons (Some bytes) IMAGE_LIMIT) (image_reasons (Some bytes)) t (read_passed bytes IMAGE_LIMIT held.fits)) s h)
+        (refuses_map (image_reasons (Some bytes)) (reasons (Disasm name) (one_file bytes)) (λ t. first_behind (read_reasons (Some bytes) MAX_IMAGE) (image_reasons (Some bytes)) t (read_passed bytes MAX_IMAGE held.fits)) s h)
 
     module _ (image : Image) (spells : Spells bytes image) (accepted : NoneHolds (image_reasons (Some bytes))) (text : List ℕ) (lists : text ≡ listing_text image) (out_now : SinkSeen) where
       disasm_none : NoneHolds (reasons (Disasm name) (one_file bytes))
       unfolding one_file
-      disasm_none = none_both (read_reasons (Some bytes) IMAGE_LIMIT) (image_reasons (Some bytes)) (read_passed bytes IMAGE_LIMIT held.fits) accepted
+      disasm_none = none_both (read_reasons (Some bytes) MAX_IMAGE) (image_reasons (Some bytes)) (read_passed bytes MAX_IMAGE held.fits) accepted
 
       pub disasm_put : (r : Result (Unit {0}) Status) → OnOk r (out_now.told ≡ option_map (λ t. t ++ text) out.told) → IfErr r (LinesRefused text out out_now) → Ends (Disasm name) before now out out_now (status_of r)
       unfolding one_file
@@ -248,22 +248,22 @@ module _ (name : List ℕ) (before now : StoreSeen) (out : SinkSeen) (told : now
 
 -- assemble LISTING IMAGE
 module _ (file name : List ℕ) (before mid : StoreSeen) (out : SinkSeen) (keeps : KeepsFiles before mid) where
-  pub assemble_unread : (s : Status) → ReadRefused before.told file LISTING_LIMIT before mid s → Ends (Assemble file name) before mid out out s
+  pub assemble_unread : (s : Status) → ReadRefused before.told file MAX_LISTING before mid s → Ends (Assemble file name) before mid out out s
   assemble_unread s r =
       let i : Input = record { first = r.file; schedule = None } in
-      reads_end (Assemble file name) before mid out keeps.told i r.found s (reads_map (read_reasons r.file LISTING_LIMIT) (reasons (Assemble file name) i) (first_here (read_reasons r.file LISTING_LIMIT) (listing_reasons r.file)) before mid s r.refuses)
+      reads_end (Assemble file name) before mid out keeps.told i r.found s (reads_map (read_reasons r.file MAX_LISTING) (reasons (Assemble file name) i) (first_here (read_reasons r.file MAX_LISTING) (listing_reasons r.file)) before mid s r.refuses)
 
-  module _ (text : List ℕ) (held : IsHeld before.told file LISTING_LIMIT text) where
+  module _ (text : List ℕ) (held : IsHeld before.told file MAX_LISTING text) where
     pub assemble_refused : (s : Status) → Refuses (listing_reasons (Some text)) s → Ends (Assemble file name) before mid out out s
     unfolding one_file
     assemble_refused s h =
         contents_end (Assemble file name) before mid out keeps.told (one_file text) held.found s
-        (refuses_map (listing_reasons (Some text)) (reasons (Assemble file name) (one_file text)) (λ t. first_behind (read_reasons (Some text) LISTING_LIMIT) (listing_reasons (Some text)) t (read_passed text LISTING_LIMIT held.fits)) s h)
+        (refuses_map (listing_reasons (Some text)) (reasons (Assemble file name) (one_file text)) (λ t. first_behind (read_reasons (Some text) MAX_LISTING) (listing_reasons (Some text)) t (read_passed text MAX_LISTING held.fits)) s h)
 
     module _ (image : Image) (means : Assembles text (Made (numbers_of image) image.memory)) (accepted : NoneHolds (listing_reasons (Some text))) (now : StoreSeen) (others : OthersStay name mid.told now.told) where
       assemble_none : NoneHolds (reasons (Assemble file name) (one_file text))
       unfolding one_file
-      assemble_none = none_both (read_reasons (Some text) LISTING_LIMIT) (listing_reasons (Some text)) (read_passed text LISTING_LIMIT held.fits) accepted
+      assemble_none = none_both (read_reasons (Some text) MAX_LISTING) (listing_reasons (Some text)) (read_passed text MAX_LISTING held.fits) accepted
 
       pub assemble_written : (r : Result (Unit {0}) Status) → OnOk r ((bytes : List ℕ) × Spells bytes image × (now.told ≡ option_map (with_file name bytes) mid.told)) → IfErr r (WriteRefused mid now) → Ends (Assemble file name) before now out out (status_of r)
       unfolding one_file

@@ -12,7 +12,7 @@ use Rattle.redn_image.specs.Faithful.{Faithful}
 use Rattle.redn_sched.specs.ScheduleText.{recorded}
 use Rattle.redn_words.specs.declared.types.Action.{Action}
 use Rattle.redn_command.specs.Words.{Command, Check, Compile, Run, Go, Disasm, Assemble, Gen, Plan, Schedule, Fair, Shuffle, RunWords, MessageWord}
-use Rattle.redn_top.specs.declared.limits.TheConstants.{FILE_LIMIT, IMAGE_LIMIT, SCHEDULE_LIMIT}
+use Rattle.redn_top.specs.declared.limits.TheConstants.{MAX_FILE, MAX_IMAGE, MAX_SCHEDULE}
 use Rattle.redn_top.specs.declared.status.Status.{Status}
 use Rattle.redn_top.specs.declared.status.Status.TheVariants.{Done, Words, Schedule as BadSchedule, ReadFailed, Missing, WriteFailed, Long, Text, Program as ProgramRefused, Image as ImageRefused, Memory, Step, Message}
 use Rattle.redn_top.specs.Sources.{Means}
@@ -87,10 +87,6 @@ module _ (p : Plan) (keep : Option (List ℕ)) (words : List MessageWord) (image
   pub whole_made : MadeWhole image words p out out_now → (now : StoreSeen) → now.told ≡ before.told → RunBroke None (run_of p keep words) image before now out out_now
   whole_made whole now e = record { printed = whole.0; part = (Done, [], ran_made p words image has Done (whole.0 ++ []) (subst (λ (l : List ℕ). RunsMade image words p Done l) (sym (append-nil whole.0)) whole.1)); holds = e; prints = whole.2 }
 
-  pub unkept_ends : keep ≡ None → MadeWhole image words p out out_now → RunEnds None (run_of p keep words) image before before out out_now Done
-  unkept_ends none h =
-      record { printed = h.0; ran = ran_made p words image has Done h.0 h.1; holds = written_nothing before.told ∙ ap (λ (o : Option (List ℕ)). option_map (with_written (kept (run_of p o words) image Done)) before.told) (sym none); prints = h.2 }
-
   module _ (name : List ℕ) (asked : keep ≡ Some name) (made : List Action) (are : made ≡ planned p (opened image words)) (whole : MadeWhole image words p out out_now) (now : StoreSeen) where
     abbrev last : Written
     last = record { name = name; bytes = recorded made }
@@ -129,23 +125,6 @@ has_text told (Schedule file) (Some text) h = h.fits
 has_text told (Fair steps) found h = h
 has_text told (Shuffle number steps) found h = h
 
-pub text_small : (p : Plan) (found : Option (List ℕ)) (text : List ℕ) → HasText p found → found ≡ Some text → length text ≤ SCHEDULE_LIMIT
-text_small (Schedule file) None text has e = absurd has
-text_small (Schedule file) (Some t) text has e = let same : t ≡ text = cc in subst (λ (l : List ℕ). length l ≤ SCHEDULE_LIMIT) same has
-text_small (Fair steps) found text has e = absurd (let none = sym has ∙ e in cc)
-text_small (Shuffle number steps) found text has e = absurd (let none = sym has ∙ e in cc)
-
--- a plan without a text makes the actions
-pub makes_actions : (p : Plan) → HasText p None → MakesActions p
-makes_actions (Schedule file) has = absurd has
-makes_actions (Fair steps) has = tt
-makes_actions (Shuffle number steps) has = tt
-
-pub few_steps : (p : Plan) (keep : Option (List ℕ)) → HasText p None → IsRunnable p keep → IsFew p
-few_steps (Schedule file) keep has runs = absurd has
-few_steps (Fair steps) keep has runs = runs
-few_steps (Shuffle number steps) keep has runs = runs
-
 plan_input : (told : Option Files) (p : Plan) (found : Option (List ℕ)) → IsPlanHeld told p found → IsPlanInput told p found
 plan_input told (Schedule file) None h = absurd h
 plan_input told (Schedule file) (Some text) h = h.found
@@ -154,7 +133,7 @@ plan_input told (Shuffle number steps) found h = tt
 
 plan_passed : (told : Option Files) (p : Plan) (found : Option (List ℕ)) → IsPlanHeld told p found → NoneHolds (plan_reads p found)
 plan_passed told (Schedule file) None h = absurd h
-plan_passed told (Schedule file) (Some text) h = read_passed text SCHEDULE_LIMIT h.fits
+plan_passed told (Schedule file) (Some text) h = read_passed text MAX_SCHEDULE h.fits
 plan_passed told (Fair steps) found h = tt
 plan_passed told (Shuffle number steps) found h = tt
 
@@ -164,21 +143,21 @@ run_input bytes schedule = record { first = Some bytes; schedule = schedule }
 -- ---- run IMAGE
 
 module _ (name : List ℕ) (r : RunWords) (before mid : StoreSeen) (out : SinkSeen) (keeps : KeepsFiles before mid) where
-  pub run_unread : (s : Status) → RunReadRefused before.told name IMAGE_LIMIT r.plan before mid s → Ends (Run name r) before mid out out s
+  pub run_unread : (s : Status) → RunReadRefused before.told name MAX_IMAGE r.plan before mid s → Ends (Run name r) before mid out out s
   run_unread s x =
       let i : Input = record { first = x.file; schedule = x.schedule } in
       reads_end (Run name r) before mid out keeps.told i (x.found, x.schedule_found) s
-      (reads_map (run_reads x.file IMAGE_LIMIT r.plan x.schedule) (reasons (Run name r) i) (first_here (run_reads x.file IMAGE_LIMIT r.plan x.schedule) (image_reasons x.file)) before mid s x.refuses)
+      (reads_map (run_reads x.file MAX_IMAGE r.plan x.schedule) (reasons (Run name r) i) (first_here (run_reads x.file MAX_IMAGE r.plan x.schedule) (image_reasons x.file)) before mid s x.refuses)
 
-  module _ (bytes : List ℕ) (schedule : Option (List ℕ)) (held : IsHeld before.told name IMAGE_LIMIT bytes) (plan_held : IsPlanHeld before.told r.plan schedule) where
-    run_passed : NoneHolds (run_reads (Some bytes) IMAGE_LIMIT r.plan schedule)
-    run_passed = none_both (read_reasons (Some bytes) IMAGE_LIMIT) (plan_reads r.plan schedule) (read_passed bytes IMAGE_LIMIT held.fits) (plan_passed before.told r.plan schedule plan_held)
+  module _ (bytes : List ℕ) (schedule : Option (List ℕ)) (held : IsHeld before.told name MAX_IMAGE bytes) (plan_held : IsPlanHeld before.told r.plan schedule) where
+    run_passed : NoneHolds (run_reads (Some bytes) MAX_IMAGE r.plan schedule)
+    run_passed = none_both (read_reasons (Some bytes) MAX_IMAGE) (plan_reads r.plan schedule) (read_passed bytes MAX_IMAGE held.fits) (plan_passed before.told r.plan schedule plan_held)
 
     pub run_refused : (s : Status) → Refuses (image_reasons (Some bytes)) s → Ends (Run name r) before mid out out s
     unfolding run_input
     run_refused s h =
         contents_end (Run name r) before mid out keeps.told (run_input bytes schedule) (held.found, plan_input before.told r.plan schedule plan_held) s
-        (refuses_map (image_reasons (Some bytes)) (reasons (Run name r) (run_input bytes schedule)) (λ t. first_behind (run_reads (Some bytes) IMAGE_LIMIT r.plan schedule) (image_reasons (Some bytes)) t run_passed) s h)
+        (refuses_map (image_reasons (Some bytes)) (reasons (Run name r) (run_input bytes schedule)) (λ t. first_behind (run_reads (Some bytes) MAX_IMAGE r.plan schedule) (image_reasons (Some bytes)) t run_passed) s h)
 
     module _ (image : Image) (spells : Spells bytes image) (accepted : NoneHolds (image_reasons (Some bytes))) (now : StoreSeen) (out_now : SinkSeen) where
       run_is : IsInput before.told (Run name r) (run_input bytes schedule)
@@ -187,7 +166,7 @@ module _ (name : List ℕ) (r : RunWords) (before mid : StoreSeen) (out : SinkSe
 
       run_none : NoneHolds (reasons (Run name r) (run_input bytes schedule))
       unfolding run_input
-      run_none = none_both (run_reads (Some bytes) IMAGE_LIMIT r.plan schedule) (image_reasons (Some bytes)) run_passed accepted
+      run_none = none_both (run_reads (Some bytes) MAX_IMAGE r.plan schedule) (image_reasons (Some bytes)) run_passed accepted
 
       run_answered : (s : Status) → RunEnded schedule r image mid now out out_now s → Answered (Run name r) before now out out_now s
       unfolding run_input
@@ -251,15 +230,15 @@ module _ (name : List ℕ) (r : RunWords) (before mid : StoreSeen) (out : SinkSe
 -- ---- go FILE IMAGE
 
 module _ (file name : List ℕ) (r : RunWords) (before mid : StoreSeen) (out : SinkSeen) (keeps : KeepsFiles before mid) where
-  pub go_unread : (s : Status) → RunReadRefused before.told file FILE_LIMIT r.plan before mid s → Ends (Go file name r) before mid out out s
+  pub go_unread : (s : Status) → RunReadRefused before.told file MAX_FILE r.plan before mid s → Ends (Go file name r) before mid out out s
   go_unread s x =
       let i : Input = record { first = x.file; schedule = x.schedule } in
       reads_end (Go file name r) before mid out keeps.told i (x.found, x.schedule_found) s
-      (reads_map (run_reads x.file FILE_LIMIT r.plan x.schedule) (reasons (Go file name r) i) (first_here (run_reads x.file FILE_LIMIT r.plan x.schedule) (source_reasons x.file)) before mid s x.refuses)
+      (reads_map (run_reads x.file MAX_FILE r.plan x.schedule) (reasons (Go file name r) i) (first_here (run_reads x.file MAX_FILE r.plan x.schedule) (source_reasons x.file)) before mid s x.refuses)
 
-  module _ (text : List ℕ) (schedule : Option (List ℕ)) (held : IsHeld before.told file FILE_LIMIT text) (plan_held : IsPlanHeld before.told r.plan schedule) where
-    go_passed : NoneHolds (run_reads (Some text) FILE_LIMIT r.plan schedule)
-    go_passed = none_both (read_reasons (Some text) FILE_LIMIT) (plan_reads r.plan schedule) (read_passed text FILE_LIMIT held.fits) (plan_passed before.told r.plan schedule plan_held)
+  module _ (text : List ℕ) (schedule : Option (List ℕ)) (held : IsHeld before.told file MAX_FILE text) (plan_held : IsPlanHeld before.told r.plan schedule) where
+    go_passed : NoneHolds (run_reads (Some text) MAX_FILE r.plan schedule)
+    go_passed = none_both (read_reasons (Some text) MAX_FILE) (plan_reads r.plan schedule) (read_passed text MAX_FILE held.fits) (plan_passed before.told r.plan schedule plan_held)
 
     go_is : IsInput before.told (Go file name r) (run_input text schedule)
     unfolding run_input
@@ -269,23 +248,23 @@ module _ (file name : List ℕ) (r : RunWords) (before mid : StoreSeen) (out : S
     unfolding run_input
     go_refused s h =
         contents_end (Go file name r) before mid out keeps.told (run_input text schedule) go_is s
-        (refuses_map (source_reasons (Some text)) (reasons (Go file name r) (run_input text schedule)) (λ t. first_behind (run_reads (Some text) FILE_LIMIT r.plan schedule) (source_reasons (Some text)) t go_passed) s h)
+        (refuses_map (source_reasons (Some text)) (reasons (Go file name r) (run_input text schedule)) (λ t. first_behind (run_reads (Some text) MAX_FILE r.plan schedule) (source_reasons (Some text)) t go_passed) s h)
 
     module _ (p : Program) (means : Means text p) (accepted : NoneHolds (source_reasons (Some text))) where
       go_none : NoneHolds (reasons (Go file name r) (run_input text schedule))
       unfolding run_input
-      go_none = none_both (run_reads (Some text) FILE_LIMIT r.plan schedule) (source_reasons (Some text)) go_passed accepted
+      go_none = none_both (run_reads (Some text) MAX_FILE r.plan schedule) (source_reasons (Some text)) go_passed accepted
 
       pub go_unwritten : (now : StoreSeen) → OthersStay name mid.told now.told → (s : Status) → WriteRefused mid now s → Ends (Go file name r) before now out out s
       go_unwritten now others s h = write_ends (Go file name r) before mid now out keeps (run_input text schedule) go_is go_none name refl others s h
 
-      module _ (image : Image) (faithful : Faithful p image) (small : length (spelling image) ≤ IMAGE_LIMIT) (wrote : StoreSeen) (w : (bytes : List ℕ) × Spells bytes image × (wrote.told ≡ option_map (with_file name bytes) mid.told)) (count : mid.counts.write_faults ≤ wrote.counts.write_faults) (reliable : wrote.reliable ≡ mid.reliable) (now : StoreSeen) (out_now : SinkSeen) where
+      module _ (image : Image) (faithful : Faithful p image) (small : length (spelling image) ≤ MAX_IMAGE) (wrote : StoreSeen) (w : (bytes : List ℕ) × Spells bytes image × (wrote.told ≡ option_map (with_file name bytes) mid.told)) (count : mid.counts.write_faults ≤ wrote.counts.write_faults) (reliable : wrote.reliable ≡ mid.reliable) (now : StoreSeen) (out_now : SinkSeen) where
         first : List Written
         first = record { name = name; bytes = w.0 } ∷ []
 
         go_compiled : Compiled (run_input text schedule) name image first
         unfolding run_input first
-        go_compiled = record { source = text; program = p; bytes = w.0; found = refl; means = means; spells = w.1; faithful = faithful; small = subst (λ (b : List ℕ). length b ≤ IMAGE_LIMIT) (sym w.1.bytes_are) small; writes = refl }
+        go_compiled = record { source = text; program = p; bytes = w.0; found = refl; means = means; spells = w.1; faithful = faithful; small = subst (λ (b : List ℕ). length b ≤ MAX_IMAGE) (sym w.1.bytes_are) small; writes = refl }
 
         go_wrote : wrote.told ≡ option_map (with_written first) before.told
         unfolding first

@@ -6,7 +6,7 @@ use Rattle.redn_outside.specs.Files.{Files, file_at, told_at}
 use Rattle.redn_outside.specs.Seen.{StoreSeen, KeepsFiles, ReadFailed as FailedRead, MissingRose, LongRose}
 use Rattle.redn_top.specs.declared.status.Status.{Status}
 use Rattle.redn_top.specs.declared.status.Status.TheVariants.{ReadFailed, Missing, Long, Memory}
-use Rattle.redn_top.specs.declared.limits.TheConstants.{SCHEDULE_LIMIT}
+use Rattle.redn_top.specs.declared.limits.TheConstants.{MAX_SCHEDULE}
 use Rattle.redn_top.specs.Reasons.{Finds, IsPlanInput, read_reasons, plan_reads, run_reads}
 use Rattle.redn_command.specs.Words.{Plan, Schedule, Fair, Shuffle}
 use Rattle.redn_top.specs.Refusals.{IsHeld, ReadRefused, RunReadRefused}
@@ -30,19 +30,12 @@ longer_file : (told : Option Files) (name : List ℕ) (limit : ℕ) → IfSome t
 longer_file None name limit h = record { bytes = replicate (suc limit) 0; found = tt; longer = omega (arith, length-replicate {A = ℕ} (suc limit) 0) }
 longer_file (Some files) name limit h = longer_held files name limit (file_at files name) refl h
 
-not_held : (told : Option Files) (name : List ℕ) → IfSome told (λ files. file_at files name ≡ None) → Finds told name None
-not_held None name h = tt
-not_held (Some files) name h = h
-
 module _ (told : Option Files) (name : List ℕ) (limit : ℕ) (before now : StoreSeen) where
   pub failed_refused : FailedRead before now → ReadRefused told name limit before now ReadFailed
   failed_refused h = record { file = told_at told name; found = found_somehow told name; refuses = h }
 
   pub want_refused : ReadRefused told name limit before now Memory
   want_refused = record { file = told_at told name; found = found_somehow told name; refuses = tt }
-
-  pub missing_refused : IfSome told (λ files. file_at files name ≡ None) → MissingRose before now → ReadRefused told name limit before now Missing
-  missing_refused h rose = record { file = None; found = not_held told name h; refuses = (rose, inl (refl, refl)) }
 
   pub long_refused : (seen : ℕ) → IfSome told (λ files. IsSomeAnd (file_at files name) (λ bytes. limit < length bytes)) → seen ≡ limit + 1 → LongRose before now → ReadRefused told name limit before now (Long seen limit)
   long_refused seen h e rose =
@@ -69,7 +62,7 @@ first_read_refused told name limit plan before now s r =
     }
 
 -- the second of them is
-pub second_read_refused : (name : List ℕ) (limit : ℕ) (schedule : List ℕ) (before mid now : StoreSeen) (text : List ℕ) → KeepsFiles before mid → IsHeld before.told name limit text → (s : Status) → ReadRefused mid.told schedule SCHEDULE_LIMIT mid now s → RunReadRefused before.told name limit (Schedule schedule) before now s
+pub second_read_refused : (name : List ℕ) (limit : ℕ) (schedule : List ℕ) (before mid now : StoreSeen) (text : List ℕ) → KeepsFiles before mid → IsHeld before.told name limit text → (s : Status) → ReadRefused mid.told schedule MAX_SCHEDULE mid now s → RunReadRefused before.told name limit (Schedule schedule) before now s
 second_read_refused name limit schedule before mid now text keeps held s r =
     record {
       file = Some text;
@@ -77,10 +70,6 @@ second_read_refused name limit schedule before mid now text keeps held s r =
       found = held.found;
       schedule_found = subst (λ (t : Option Files). Finds t schedule r.file) keeps.told r.found;
       refuses =
-          reads_map (read_reasons r.file SCHEDULE_LIMIT) (run_reads (Some text) limit (Schedule schedule) r.file) (λ s h. first_behind (read_reasons (Some text) limit) (read_reasons r.file SCHEDULE_LIMIT) s (read_passed text limit held.fits) h) before now s
-          (reads_later (read_reasons r.file SCHEDULE_LIMIT) before mid now keeps s r.refuses);
+          reads_map (read_reasons r.file MAX_SCHEDULE) (run_reads (Some text) limit (Schedule schedule) r.file) (λ s h. first_behind (read_reasons (Some text) limit) (read_reasons r.file MAX_SCHEDULE) s (read_passed text limit held.fits) h) before now s
+          (reads_later (read_reasons r.file MAX_SCHEDULE) before mid now keeps s r.refuses);
     }
-
--- what a plan read, as it was before
-pub plan_held_before : (before mid : StoreSeen) (file : List ℕ) (text : List ℕ) → KeepsFiles before mid → IsHeld mid.told file SCHEDULE_LIMIT text → IsHeld before.told file SCHEDULE_LIMIT text
-plan_held_before before mid file text keeps h = record { found = subst (λ (t : Option Files). Finds t file (Some text)) keeps.told h.found; fits = h.fits }

@@ -13,7 +13,7 @@ use Rattle.redn_gen.specs.Generated.{below, chain_count}
 use Rattle.std.specs.List.{flat_map}
 use Rattle.redn_top.specs.declared.status.Status.{Status}
 use Rattle.redn_top.specs.declared.status.Status.TheVariants.{Done, Words, Schedule as BadSchedule, ReadFailed, Missing, WriteFailed, Long, Text, Program as ProgramRefused, Image as ImageRefused, Memory, Step, Message}
-use Rattle.redn_top.specs.declared.limits.TheConstants.{IMAGE_LIMIT}
+use Rattle.redn_top.specs.declared.limits.TheConstants.{MAX_IMAGE}
 use Rattle.redn_top.specs.Reasons.{Input}
 use Rattle.redn_top.specs.Answers.{Written, Generated, BrokeOff, Ends, status_of}
 use Rattle.redn_top.specs.Refusals.{LinesRefused, WriteRefused}
@@ -33,9 +33,6 @@ no_file : Input
 no_file = record { first = None; schedule = None }
 
 module _ (number : ℕ) (name : List ℕ) (before : StoreSeen) (out : SinkSeen) where
-  pub gen_wants : Ends (Gen number name) before before out out Memory
-  gen_wants = inl (record { holds = refl; prints = refl })
-
   pub gen_unwritten : (now : StoreSeen) → OthersStay name before.told now.told → (s : Status) → WriteRefused before now s → Ends (Gen number name) before now out out s
   gen_unwritten now others WriteFailed h = inl (h, inl (record { input = no_file; name = name; is_first = refl; is_input = tt; none = tt; others = others; prints = refl }))
   gen_unwritten now others Memory h = inl (record { holds = ap (λ (x : StoreSeen). x.told) h; prints = refl })
@@ -51,12 +48,12 @@ module _ (number : ℕ) (name : List ℕ) (before : StoreSeen) (out : SinkSeen) 
   gen_unwritten now others (Step line) h = absurd h
   gen_unwritten now others (Message fault) h = absurd h
 
-  module _ (image : Image) (faithful : Faithful (generated_program number) image) (small : length (spelling image) ≤ IMAGE_LIMIT) (now : StoreSeen) (w : (bytes : List ℕ) × Spells bytes image × (now.told ≡ option_map (with_file name bytes) before.told)) where
+  module _ (image : Image) (faithful : Faithful (generated_program number) image) (small : length (spelling image) ≤ MAX_IMAGE) (now : StoreSeen) (w : (bytes : List ℕ) × Spells bytes image × (now.told ≡ option_map (with_file name bytes) before.told)) where
     abbrev first : List Written
     first = record { name = name; bytes = w.0 } ∷ []
 
     generated : (printed : List ℕ) → printed ≡ summary number image → Generated number name printed first
-    generated printed e = record { image = image; bytes = w.0; spells = w.1; faithful = faithful; small = subst (λ (b : List ℕ). length b ≤ IMAGE_LIMIT) (sym w.1.bytes_are) small; prints = e; writes = refl }
+    generated printed e = record { image = image; bytes = w.0; spells = w.1; faithful = faithful; small = subst (λ (b : List ℕ). length b ≤ MAX_IMAGE) (sym w.1.bytes_are) small; prints = e; writes = refl }
 
     -- a part of the summary was put
     broke : (out_now : SinkSeen) (printed rest : List ℕ) → summary number image ≡ printed ++ rest → out_now.told ≡ option_map (λ t. t ++ printed) out.told → BrokeOff (Gen number name) before now out out_now

@@ -4,7 +4,7 @@ use Rattle.std.specs.Prelude.{Option, Some, None}
 use Rattle.std.specs.Option.{option_map}
 use Rattle.std.proofs.lemmas.List.{take-append-drop}
 use Rattle.redn_outside.specs.Seen.{SinkSeen}
-use Rattle.redn_disasm.specs.Assembly.{lines_after, lines_of}
+use Rattle.redn_text.specs.Texts.{lines_after, lines_of}
 use Rattle.redn_top.specs.declared.status.Status.{Status}
 use Rattle.redn_top.specs.declared.status.Status.TheVariants.{Done, Words, Schedule as BadSchedule, ReadFailed, Missing, WriteFailed, Long, Text, Program, Image, Memory, Step, Message}
 use Rattle.redn_top.specs.Refusals.{FaultsStay, LinesRefused, PutRefused}

@@ -4,11 +4,11 @@ use Rattle.std.specs.Prelude.{Option, Some, None}
 use Rattle.redn_outside.specs.Files.{Files}
 use Rattle.redn_outside.specs.Seen.{StoreSeen, SinkSeen}
 use Rattle.redn_image.specs.Rules.{Image}
-use Rattle.redn_top.specs.declared.limits.TheConstants.{FILE_LIMIT, IMAGE_LIMIT, LISTING_LIMIT, SCHEDULE_LIMIT}
+use Rattle.redn_top.specs.declared.limits.TheConstants.{MAX_FILE, MAX_IMAGE, MAX_LISTING, MAX_SCHEDULE}
 use Rattle.redn_top.specs.declared.status.Status.{Status}
 use Rattle.redn_top.specs.declared.status.Status.TheVariants.{Done, Words, Schedule as BadSchedule, ReadFailed, Missing, WriteFailed, Long, Text, Program as ProgramRefused, Image as ImageRefused, Memory, Step, Message}
 use Rattle.redn_top.specs.StatusText.{code_of}
-use Rattle.redn_command.specs.declared.limits.TheConstants.{MOST_STEPS}
+use Rattle.redn_command.specs.declared.limits.TheConstants.{MAX_STEPS}
 use Rattle.redn_command.specs.Words.{Command, Check, Compile, Run, Go, Disasm, Assemble, Gen, Plan, Schedule, Fair, Shuffle, MessageWord, Line, most_steps, GivesPlan, IsCommand}
 use Rattle.redn_top.specs.Calls.{Calls, IsDemanded}
 use Rattle.redn_top.specs.Refusals.{IsRunnable, CanRun}
@@ -18,7 +18,7 @@ use Rattle.redn_top.specs.Answers.{Written, Ran, RunsMade, MadeMessages, MadeEnd
 -- ---- words
 
 -- what is asked can be run: recorded steps are no more than others
-few_recorded : (keep : Option (List ℕ)) (n : ℕ) → n ≤ most_steps keep → n ≤ MOST_STEPS
+few_recorded : (keep : Option (List ℕ)) (n : ℕ) → n ≤ most_steps keep → n ≤ MAX_STEPS
 few_recorded None n l = l
 few_recorded (Some name) n l = omega (arith, l)
 
@@ -88,36 +88,36 @@ both_coded Nil Q a b = b
 both_coded (Or P rest) Q (one, a) b = (one, both_coded rest Q a b)
 
 reads_coded : (found : Option (List ℕ)) (limit : ℕ) (p : Plan) (schedule : Option (List ℕ)) → AreCoded (run_reads found limit p schedule)
-reads_coded found limit (Schedule file) schedule = (missing_coded found, (long_coded found limit, (missing_coded schedule, (long_coded schedule SCHEDULE_LIMIT, tt))))
+reads_coded found limit (Schedule file) schedule = (missing_coded found, (long_coded found limit, (missing_coded schedule, (long_coded schedule MAX_SCHEDULE, tt))))
 reads_coded found limit (Fair steps) schedule = (missing_coded found, (long_coded found limit, tt))
 reads_coded found limit (Shuffle number steps) schedule = (missing_coded found, (long_coded found limit, tt))
 
 reasons_coded : (c : Command) (i : Input) → AreCoded (reasons c i)
-reasons_coded (Check file) i = (missing_coded i.first, (long_coded i.first FILE_LIMIT, (tree_coded i.first, (program_coded i.first, tt))))
-reasons_coded (Compile file image) i = (missing_coded i.first, (long_coded i.first FILE_LIMIT, (tree_coded i.first, (program_coded i.first, tt))))
-reasons_coded (Run image r) i = both_coded (run_reads i.first IMAGE_LIMIT r.plan i.schedule) (image_reasons i.first) (reads_coded i.first IMAGE_LIMIT r.plan i.schedule) (image_coded i.first, tt)
-reasons_coded (Disasm image) i = (missing_coded i.first, (long_coded i.first IMAGE_LIMIT, (image_coded i.first, tt)))
-reasons_coded (Assemble listing image) i = (missing_coded i.first, (long_coded i.first LISTING_LIMIT, (wrong_line_coded i.first, (rows_coded i.first, tt))))
-reasons_coded (Go file image r) i = both_coded (run_reads i.first FILE_LIMIT r.plan i.schedule) (source_reasons i.first) (reads_coded i.first FILE_LIMIT r.plan i.schedule) (tree_coded i.first, (program_coded i.first, tt))
+reasons_coded (Check file) i = (missing_coded i.first, (long_coded i.first MAX_FILE, (tree_coded i.first, (program_coded i.first, tt))))
+reasons_coded (Compile file image) i = (missing_coded i.first, (long_coded i.first MAX_FILE, (tree_coded i.first, (program_coded i.first, tt))))
+reasons_coded (Run image r) i = both_coded (run_reads i.first MAX_IMAGE r.plan i.schedule) (image_reasons i.first) (reads_coded i.first MAX_IMAGE r.plan i.schedule) (image_coded i.first, tt)
+reasons_coded (Disasm image) i = (missing_coded i.first, (long_coded i.first MAX_IMAGE, (image_coded i.first, tt)))
+reasons_coded (Assemble listing image) i = (missing_coded i.first, (long_coded i.first MAX_LISTING, (wrong_line_coded i.first, (rows_coded i.first, tt))))
+reasons_coded (Go file image r) i = both_coded (run_reads i.first MAX_FILE r.plan i.schedule) (source_reasons i.first) (reads_coded i.first MAX_FILE r.plan i.schedule) (tree_coded i.first, (program_coded i.first, tt))
 reasons_coded (Gen number image) i = tt
 
 same_plan : (files : Files) (p : Plan) (found other : Option (List ℕ)) → IsPlanInput (Some files) p found → IsPlanInput (Some files) p other → (P : Reasons → Type 0) → P (plan_reads p found) → P (plan_reads p other)
-same_plan files (Schedule file) found other a b P h = subst (λ (f : Option (List ℕ)). P (read_reasons f SCHEDULE_LIMIT)) (sym a ∙ b) h
+same_plan files (Schedule file) found other a b P h = subst (λ (f : Option (List ℕ)). P (read_reasons f MAX_SCHEDULE)) (sym a ∙ b) h
 same_plan files (Fair steps) found other a b P h = h
 same_plan files (Shuffle number steps) found other a b P h = h
 
 -- where the store tells, reasons are those of what it holds
 pub same_reasons : (files : Files) (c : Command) (i j : Input) → IsInput (Some files) c i → IsInput (Some files) c j → (P : Reasons → Type 0) → P (reasons c i) → P (reasons c j)
-same_reasons files (Check file) i j a b P h = subst (λ (f : Option (List ℕ)). P (also (read_reasons f FILE_LIMIT) (source_reasons f))) (sym a ∙ b) h
-same_reasons files (Compile file image) i j a b P h = subst (λ (f : Option (List ℕ)). P (also (read_reasons f FILE_LIMIT) (source_reasons f))) (sym a ∙ b) h
+same_reasons files (Check file) i j a b P h = subst (λ (f : Option (List ℕ)). P (also (read_reasons f MAX_FILE) (source_reasons f))) (sym a ∙ b) h
+same_reasons files (Compile file image) i j a b P h = subst (λ (f : Option (List ℕ)). P (also (read_reasons f MAX_FILE) (source_reasons f))) (sym a ∙ b) h
 same_reasons files (Run image r) i j a b P h =
-    same_plan files r.plan i.schedule j.schedule a.1 b.1 (λ reads. P (also (also (read_reasons j.first IMAGE_LIMIT) reads) (image_reasons j.first)))
-    (subst (λ (f : Option (List ℕ)). P (also (run_reads f IMAGE_LIMIT r.plan i.schedule) (image_reasons f))) (sym a.0 ∙ b.0) h)
-same_reasons files (Disasm image) i j a b P h = subst (λ (f : Option (List ℕ)). P (also (read_reasons f IMAGE_LIMIT) (image_reasons f))) (sym a ∙ b) h
-same_reasons files (Assemble listing image) i j a b P h = subst (λ (f : Option (List ℕ)). P (also (read_reasons f LISTING_LIMIT) (listing_reasons f))) (sym a ∙ b) h
+    same_plan files r.plan i.schedule j.schedule a.1 b.1 (λ reads. P (also (also (read_reasons j.first MAX_IMAGE) reads) (image_reasons j.first)))
+    (subst (λ (f : Option (List ℕ)). P (also (run_reads f MAX_IMAGE r.plan i.schedule) (image_reasons f))) (sym a.0 ∙ b.0) h)
+same_reasons files (Disasm image) i j a b P h = subst (λ (f : Option (List ℕ)). P (also (read_reasons f MAX_IMAGE) (image_reasons f))) (sym a ∙ b) h
+same_reasons files (Assemble listing image) i j a b P h = subst (λ (f : Option (List ℕ)). P (also (read_reasons f MAX_LISTING) (listing_reasons f))) (sym a ∙ b) h
 same_reasons files (Go file image r) i j a b P h =
-    same_plan files r.plan i.schedule j.schedule a.1 b.1 (λ reads. P (also (also (read_reasons j.first FILE_LIMIT) reads) (source_reasons j.first)))
-    (subst (λ (f : Option (List ℕ)). P (also (run_reads f FILE_LIMIT r.plan i.schedule) (source_reasons f))) (sym a.0 ∙ b.0) h)
+    same_plan files r.plan i.schedule j.schedule a.1 b.1 (λ reads. P (also (also (read_reasons j.first MAX_FILE) reads) (source_reasons j.first)))
+    (subst (λ (f : Option (List ℕ)). P (also (run_reads f MAX_FILE r.plan i.schedule) (source_reasons f))) (sym a.0 ∙ b.0) h)
 same_reasons files (Gen number image) i j a b P h = h
 
 -- ---- what follows where the store tells

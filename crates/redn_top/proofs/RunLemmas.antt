@@ -87,13 +87,6 @@ step_some r a o next e f =
       | false ↦ λ can e f. absurd (cc)
     ] refl e f
 
-pub step_none : (r : Running) (a : Action) → None ≡ option_map (λ (p : State × Obs). p.1) (step r.state a) → possible r.state a ≡ false
-step_none r a e =
-    elim (possible r.state a) as (λ b. possible r.state a ≡ b → None ≡ option_map (λ (p : State × Obs). p.1) (cond b (Some (after r.state a, shown r.state a)) None) → b ≡ false) [
-      | true ↦ λ can e. absurd (cc)
-      | false ↦ λ can e. refl
-    ] refl e
-
 -- what some actions have made of an adapter and of what was told as printed
 pub record Ran (first : Running) (acts : List Action) (k : ℕ) (now : Running) (before told : Option (List ℕ)) : Type 0 where
   pub steps : now.steps ≡ first.steps + k
@@ -123,11 +116,6 @@ ran_more first acts k now before told a o next after_it r s e =
       state = s.state ∙ ap (λ (x : State). after x a) r.state ∙ sym (reached-push first.state acts a);
       text = e ∙ ap (option_map (λ text. text ++ event_text o)) r.text ∙ option_map-twice (events_text first.state acts) (event_text o) before ∙ ap (λ (l : List ℕ). option_map (λ text. text ++ l) before) (sym text);
     }
-
--- nothing is put where the event's line is empty
-pub put_nothing : (o : Obs) (told : Option (List ℕ)) → o ≡ shows.Nothing → told ≡ option_map (λ text. text ++ event_text o) told
-unfolding event_text
-put_nothing o told e = rw e (option_map-nothing told)
 
 -- what is seen of the items so far, and of one more
 pub mapped_more : {X Y : Type 0} (f : X → Y) (xs : List X) (k : ℕ) (d : X) → k < length xs → map f (take (k + 1) xs) ≡ map f (take k xs) ++ f (get_or xs k d) ∷ []

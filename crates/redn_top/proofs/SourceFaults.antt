@@ -41,9 +41,6 @@ module _ (text : List ℕ) where
     too_deep at place e deep none =
         subst (λ (m : ℕ). TextRefused text (Nesting m)) (sym e) (record { why = TooDeep tokens at tokenized deep; none = λ f r. none f (its_tree f r) })
 
-    pub reads : (f : File) → HasTreeWithin 64 text tokens f → IsTextOf text f
-    reads f tree = record { tokens = tokens; tokenized = tokenized; tree = tree }
-
     pub is_writable : (f : File) → HasTreeWithin 64 text tokens f → IsWritable f
     is_writable f tree = writable text tokens f tokenized (64, tree)
 
@@ -73,18 +70,3 @@ module _ (text : List ℕ) where
     rules_refused (Long seen limit) h = absurd h
     rules_refused (Text fault) h = absurd h
     rules_refused (Step line) h = absurd h
-
-pub tree_refused : (text : List ℕ) (s : Status) → TreeRefused text s → SourceRefused text s
-tree_refused text (Text fault) h = h
-tree_refused text Memory h = tt
-tree_refused text Done h = absurd h
-tree_refused text ReadFailed h = absurd h
-tree_refused text Missing h = absurd h
-tree_refused text WriteFailed h = absurd h
-tree_refused text Words h = absurd h
-tree_refused text (BadSchedule number) h = absurd h
-tree_refused text (ImageRefused fault) h = absurd h
-tree_refused text (Message fault) h = absurd h
-tree_refused text (Long seen limit) h = absurd h
-tree_refused text (ProgramRefused rule at seen) h = absurd h
-tree_refused text (Step line) h = absurd h

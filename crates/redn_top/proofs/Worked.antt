@@ -19,7 +19,7 @@ use Rattle.redn_image.specs.Rules.{Image as Parts}
 use Rattle.redn_image.specs.Faithful.{start_of}
 use Rattle.redn_syntax.specs.declared.token.Token.{Token}
 use Rattle.redn_syntax.specs.declared.token.TokenKind.TheVariants.{Name}
-use Rattle.redn_top.specs.declared.limits.TheConstants.{FILE_LIMIT, IMAGE_LIMIT, LISTING_LIMIT, SCHEDULE_LIMIT}
+use Rattle.redn_top.specs.declared.limits.TheConstants.{MAX_FILE, MAX_IMAGE, MAX_LISTING, MAX_SCHEDULE}
 use Rattle.redn_top.specs.declared.status.TextFault.TheVariants.{Byte, Nesting}
 use Rattle.redn_top.specs.declared.status.ImageFault.TheVariants.{Magic, Version, Rule}
 use Rattle.redn_top.specs.declared.status.MessageFault.TheVariants.{NoChain, Twice, BadHex, Length}
@@ -177,5 +177,5 @@ behind_no_image : IsBehindImage (Gen 5 (codes "g")) (codes "gen 5\n") [] → ⊥
 behind_no_image h = absurd (let e = h refl in cc)
 
 -- how long the files that are read may be
-the_limits : (FILE_LIMIT ≡ 1048576) × (IMAGE_LIMIT ≡ 33554432) × (LISTING_LIMIT ≡ 268435456) × (SCHEDULE_LIMIT ≡ 16777216)
+the_limits : (MAX_FILE ≡ 1048576) × (MAX_IMAGE ≡ 33554432) × (MAX_LISTING ≡ 268435456) × (MAX_SCHEDULE ≡ 16777216)
 the_limits = (refl, refl, refl, refl)

@@ -6,7 +6,7 @@ use Rattle.redn_outside.specs.Seen.{StoreSeen}
 use Rattle.redn_words.specs.declared.types.Obs.{Obs}
 use Rattle.redn_words.specs.declared.types.Obs.TheVariants as shows
 use Rattle.redn_command.specs.Words.{Command, Run, Go, Gen, Fair, Schedule}
-use Rattle.redn_top.specs.declared.limits.TheConstants.{FILE_LIMIT, IMAGE_LIMIT, SCHEDULE_LIMIT}
+use Rattle.redn_top.specs.declared.limits.TheConstants.{MAX_FILE, MAX_IMAGE, MAX_SCHEDULE}
 use Rattle.redn_top.specs.declared.status.Status.TheVariants.{Done, Missing, ReadFailed, WriteFailed, Message}
 use Rattle.redn_top.specs.declared.status.MessageFault.TheVariants.{NoChain}
 use Rattle.redn_top.specs.Answers.{first_written}
@@ -21,46 +21,46 @@ scheduled = Run (codes "i") (record { plan = Schedule (codes "s"); keep = None; 
 abbrev recorded : Command
 recorded = Go (codes "f") (codes "i") (record { plan = Fair 9; keep = Some (codes "r"); messages = [] })
 
-two_reads : reads_of scheduled ≡ Reads (codes "i") IMAGE_LIMIT ∷ Reads (codes "s") SCHEDULE_LIMIT ∷ []
+two_reads : reads_of scheduled ≡ Reads (codes "i") MAX_IMAGE ∷ Reads (codes "s") MAX_SCHEDULE ∷ []
 two_reads = refl
 
 -- where all is done the image is written and then the record
-three_calls : CallsMade recorded None Done (Reads (codes "f") FILE_LIMIT ∷ Writes (codes "i") ∷ Writes (codes "r") ∷ [])
+three_calls : CallsMade recorded None Done (Reads (codes "f") MAX_FILE ∷ Writes (codes "i") ∷ Writes (codes "r") ∷ [])
 three_calls = refl
 
 -- with a bad message the record isn't, and no image is written twice
-two_calls : CallsMade recorded None (Message (NoChain 4)) (Reads (codes "f") FILE_LIMIT ∷ Writes (codes "i") ∷ [])
+two_calls : CallsMade recorded None (Message (NoChain 4)) (Reads (codes "f") MAX_FILE ∷ Writes (codes "i") ∷ [])
 two_calls = refl
 
-written_twice : CallsMade recorded None (Message (NoChain 4)) (Reads (codes "f") FILE_LIMIT ∷ Writes (codes "i") ∷ Writes (codes "i") ∷ []) → ⊥
+written_twice : CallsMade recorded None (Message (NoChain 4)) (Reads (codes "f") MAX_FILE ∷ Writes (codes "i") ∷ Writes (codes "i") ∷ []) → ⊥
 written_twice e = absurd (cc)
 
 -- the write of the image failed
-lost : CallsMade recorded None WriteFailed (Reads (codes "f") FILE_LIMIT ∷ Writes (codes "i") ∷ [])
+lost : CallsMade recorded None WriteFailed (Reads (codes "f") MAX_FILE ∷ Writes (codes "i") ∷ [])
 lost = (Writes (codes "i") ∷ [], (Writes (codes "r") ∷ [], refl), refl)
 
 kept : RecordMade (Some (codes "r")) Done (Writes (codes "r") ∷ [])
 kept = refl
 
 -- the schedule can't be read behind an image that was
-second : EndAtRead None (reads_of scheduled) (Reads (codes "i") IMAGE_LIMIT ∷ Reads (codes "s") SCHEDULE_LIMIT ∷ [])
+second : EndAtRead None (reads_of scheduled) (Reads (codes "i") MAX_IMAGE ∷ Reads (codes "s") MAX_SCHEDULE ∷ [])
 second = record {
-  earlier = Reads (codes "i") IMAGE_LIMIT ∷ [];
-  here = Reads (codes "s") SCHEDULE_LIMIT;
+  earlier = Reads (codes "i") MAX_IMAGE ∷ [];
+  here = Reads (codes "s") MAX_SCHEDULE;
   later = [];
   all_are = refl;
   made_are = refl;
-  passed = ((Some [], tt, read_passed [] IMAGE_LIMIT (omega arith)), tt);
+  passed = ((Some [], tt, read_passed [] MAX_IMAGE (omega arith)), tt);
 }
 
 -- no read comes before that of the image
 i_is_not_s : codes "i" ≡ codes "s" → ⊥
 i_is_not_s same = let e : ◌≡◌ {A = ℕ} 105 115 = ap (λ xs. get_or xs 0 0) same in omega (arith, e)
 
-schedule_first : EndAtRead None (reads_of scheduled) (Reads (codes "s") SCHEDULE_LIMIT ∷ []) → ⊥
+schedule_first : EndAtRead None (reads_of scheduled) (Reads (codes "s") MAX_SCHEDULE ∷ []) → ⊥
 schedule_first h = by_earlier h.earlier h.all_are h.made_are
   where
-    by_earlier : (earlier : List Call) → reads_of scheduled ≡ earlier ++ h.here ∷ h.later → Reads (codes "s") SCHEDULE_LIMIT ∷ [] ≡ earlier ++ h.here ∷ [] → ⊥
+    by_earlier : (earlier : List Call) → reads_of scheduled ≡ earlier ++ h.here ∷ h.later → Reads (codes "s") MAX_SCHEDULE ∷ [] ≡ earlier ++ h.here ∷ [] → ⊥
     by_earlier [] a m = i_is_not_s (cc)
     by_earlier (c ∷ []) a m = absurd (cc)
     by_earlier (c ∷ d ∷ rest) a m = absurd (cc)
@@ -73,8 +73,8 @@ told_missing : IsDemanded scheduled quiet_store quiet_store Missing Missing
 told_missing = refl
 
 -- or that the read of the image itself failed
-read_failed : IsDemanded scheduled quiet_store (record quiet_store { calls = Some (Reads (codes "i") IMAGE_LIMIT ∷ []) }) Missing ReadFailed
-read_failed = (Reads (codes "i") IMAGE_LIMIT ∷ [], record { earlier = []; here = Reads (codes "i") IMAGE_LIMIT; later = Reads (codes "s") SCHEDULE_LIMIT ∷ []; all_are = refl; made_are = refl; passed = tt }, refl)
+read_failed : IsDemanded scheduled quiet_store (record quiet_store { calls = Some (Reads (codes "i") MAX_IMAGE ∷ []) }) Missing ReadFailed
+read_failed = (Reads (codes "i") MAX_IMAGE ∷ [], record { earlier = []; here = Reads (codes "i") MAX_IMAGE; later = Reads (codes "s") MAX_SCHEDULE ∷ []; all_are = refl; made_are = refl; passed = tt }, refl)
 
 firsts : (first_written scheduled ≡ None) × (first_written recorded ≡ Some (codes "i")) × (first_written (Gen 5 (codes "g")) ≡ Some (codes "g"))
 firsts = (refl, refl, refl)

@@ -12,7 +12,7 @@ use Rattle.redn_command.specs.Words.{Command, Check, Gen, Fair, RunWords, Messag
 use Rattle.redn_top.specs.declared.status.Status.TheVariants.{Done, Memory, Missing, Message}
 use Rattle.redn_outside.proofs.FileMaps.{OthersStay-with_file}
 use Rattle.redn_words.specs.States.{State}
-use Rattle.redn_top.specs.declared.limits.TheConstants.{IMAGE_LIMIT}
+use Rattle.redn_top.specs.declared.limits.TheConstants.{MAX_IMAGE}
 use Rattle.redn_top.specs.declared.status.Status.{Status}
 use Rattle.redn_top.specs.declared.status.MessageFault.TheVariants.{NoChain}
 use Rattle.redn_top.specs.Reasons.{Input}
@@ -32,7 +32,7 @@ abbrev gen : Command
 gen = Gen 5 (codes "g")
 
 -- an image of the generated file of 5, and its summary behind the first line
-module _ (image : Image) (bytes rest : List ℕ) (spells : Spells bytes image) (faithful : Faithful (generated_program 5) image) (small : length bytes ≤ IMAGE_LIMIT) (text : summary 5 image ≡ codes "gen 5\n" ++ rest) where
+module _ (image : Image) (bytes rest : List ℕ) (spells : Spells bytes image) (faithful : Faithful (generated_program 5) image) (small : length bytes ≤ MAX_IMAGE) (text : summary 5 image ≡ codes "gen 5\n" ++ rest) where
   abbrev its_image : Written
   its_image = record { name = codes "g"; bytes = bytes }
 

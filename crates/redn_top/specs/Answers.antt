@@ -15,7 +15,7 @@ use Rattle.redn_image.specs.Spelling.{Spells}
 use Rattle.redn_image.specs.Faithful.{Faithful, start_of}
 use Rattle.redn_words.specs.States.{State}
 use Rattle.redn_sched.specs.ScheduleText.{recorded}
-use Rattle.redn_top.specs.declared.limits.TheConstants.{IMAGE_LIMIT}
+use Rattle.redn_top.specs.declared.limits.TheConstants.{MAX_IMAGE}
 use Rattle.redn_top.specs.declared.status.Status.{Status}
 use Rattle.redn_top.specs.declared.status.Status.TheVariants as status
 use Rattle.redn_command.specs.Words.{Command, Check, Compile, Run, Go, Disasm, Assemble, Gen, Plan, Schedule, Fair, Shuffle, RunWords, MessageWord}
@@ -57,7 +57,7 @@ pub record Compiled (i : Input) (name : List ℕ) (image : Image) (written : Lis
   pub means : Means source program
   pub spells : Spells bytes image
   pub faithful : Faithful program image
-  pub small : length bytes ≤ IMAGE_LIMIT
+  pub small : length bytes ≤ MAX_IMAGE
   pub writes : written ≡ record { name = name; bytes = bytes } ∷ []
 
 -- the listing of an image is printed
@@ -121,7 +121,7 @@ pub record Generated (number : ℕ) (name : List ℕ) (printed : List ℕ) (writ
   pub bytes : List ℕ
   pub spells : Spells bytes image
   pub faithful : Faithful (generated_program number) image
-  pub small : length bytes ≤ IMAGE_LIMIT
+  pub small : length bytes ≤ MAX_IMAGE
   pub prints : printed ≡ summary number image
   pub writes : written ≡ record { name = name; bytes = bytes } ∷ []
 

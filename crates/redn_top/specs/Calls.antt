@@ -4,7 +4,7 @@ use Rattle.redn_outside.specs.Calls.{Call, Reads, Writes, and_calls}
 use Rattle.redn_outside.specs.Files.{Files}
 use Rattle.redn_outside.specs.Seen.{StoreSeen}
 use Rattle.redn_command.specs.Words.{Command, Check, Compile, Run, Go, Disasm, Assemble, Gen, Plan, Schedule, Fair, Shuffle}
-use Rattle.redn_top.specs.declared.limits.TheConstants.{FILE_LIMIT, IMAGE_LIMIT, LISTING_LIMIT, SCHEDULE_LIMIT}
+use Rattle.redn_top.specs.declared.limits.TheConstants.{MAX_FILE, MAX_IMAGE, MAX_LISTING, MAX_SCHEDULE}
 use Rattle.redn_top.specs.declared.status.Status.{Status}
 use Rattle.redn_top.specs.declared.status.Status.TheVariants as status
 use Rattle.redn_top.specs.StatusText.{code_of}
@@ -13,7 +13,7 @@ use Rattle.redn_top.specs.Reasons.{Finds, NoneHolds, read_reasons}
 -- ---- the calls of a command that does all its work
 
 abbrev pub plan_reads : Plan → List Call
-plan_reads (Schedule file) = Reads file SCHEDULE_LIMIT ∷ []
+plan_reads (Schedule file) = Reads file MAX_SCHEDULE ∷ []
 plan_reads (Fair steps) = []
 plan_reads (Shuffle number steps) = []
 
@@ -22,12 +22,12 @@ abbrev pub run_reads : List ℕ → ℕ → Plan → List Call
 run_reads name limit plan = Reads name limit ∷ plan_reads plan
 
 abbrev pub reads_of : Command → List Call
-reads_of (Check file) = Reads file FILE_LIMIT ∷ []
-reads_of (Compile file image) = Reads file FILE_LIMIT ∷ []
-reads_of (Run image r) = run_reads image IMAGE_LIMIT r.plan
-reads_of (Go file image r) = run_reads file FILE_LIMIT r.plan
-reads_of (Disasm image) = Reads image IMAGE_LIMIT ∷ []
-reads_of (Assemble listing image) = Reads listing LISTING_LIMIT ∷ []
+reads_of (Check file) = Reads file MAX_FILE ∷ []
+reads_of (Compile file image) = Reads file MAX_FILE ∷ []
+reads_of (Run image r) = run_reads image MAX_IMAGE r.plan
+reads_of (Go file image r) = run_reads file MAX_FILE r.plan
+reads_of (Disasm image) = Reads image MAX_IMAGE ∷ []
+reads_of (Assemble listing image) = Reads listing MAX_LISTING ∷ []
 reads_of (Gen number image) = []
 
 -- the write of its image

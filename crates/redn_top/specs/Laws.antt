@@ -10,7 +10,7 @@ use Rattle.redn_image.specs.Faithful.{AreMessages, Faithful}
 use Rattle.redn_image.specs.Spelling.{Spells}
 use Rattle.redn_command.specs.Words.{Assemble, Disasm, Plan, MessageWord}
 use Rattle.redn_top.specs.MessageWords.{messages}
-use Rattle.redn_top.specs.declared.limits.TheConstants.{IMAGE_LIMIT}
+use Rattle.redn_top.specs.declared.limits.TheConstants.{MAX_IMAGE}
 use Rattle.redn_top.specs.declared.status.Status.{Status}
 use Rattle.redn_top.specs.declared.status.Status.TheVariants.{Done}
 use Rattle.redn_top.specs.Reasons.{Input, NoneHolds, message_reasons}
@@ -46,5 +46,5 @@ WritesAgain listing name bytes text =
 -- a file that holds an image, as `compile` writes it, is listed, and what is assembled of the listing is this file byte for byte
 abbrev pub ListedFilesComeBack : Type 0
 ListedFilesComeBack =
-    (name listing other : List ℕ) (bytes : List ℕ) (image : Image) → Spells bytes image → All (λ b. b < 256) image.memory → length bytes ≤ IMAGE_LIMIT
+    (name listing other : List ℕ) (bytes : List ℕ) (image : Image) → Spells bytes image → All (λ b. b < 256) image.memory → length bytes ≤ MAX_IMAGE
     → (i : Input) (s : Status) (text : List ℕ) (written : List Written) → i.first ≡ Some bytes → Answers (Disasm name) i s text written → (s ≡ Done) × WritesAgain listing other bytes text

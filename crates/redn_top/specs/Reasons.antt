@@ -6,7 +6,7 @@ use Rattle.redn_image.specs.Spelling.{Refused, NotMagic, OtherVersion, TooShort,
 use Rattle.redn_image.specs.declared.numbers.Fault.{Fault}
 use Rattle.redn_disasm.specs.Assembly.{Assembles, WrongLine, BreaksRule}
 use Rattle.redn_top.specs.declared.status.TextFault.TheVariants as text_fault
-use Rattle.redn_top.specs.declared.limits.TheConstants.{FILE_LIMIT, IMAGE_LIMIT, LISTING_LIMIT, SCHEDULE_LIMIT}
+use Rattle.redn_top.specs.declared.limits.TheConstants.{MAX_FILE, MAX_IMAGE, MAX_LISTING, MAX_SCHEDULE}
 use Rattle.redn_top.specs.declared.status.ImageFault.{ImageFault}
 use Rattle.redn_top.specs.declared.status.ImageFault.TheVariants as image_fault
 use Rattle.redn_top.specs.declared.status.MessageFault.{MessageFault}
@@ -134,7 +134,7 @@ abbrev pub listing_reasons : Option (List ℕ) → Reasons
 listing_reasons found = Or (wrong_line found) (Or (broken_rows found) Nil)
 
 abbrev pub plan_reads : Plan → Option (List ℕ) → Reasons
-plan_reads (Schedule file) found = read_reasons found SCHEDULE_LIMIT
+plan_reads (Schedule file) found = read_reasons found MAX_SCHEDULE
 plan_reads (Fair steps) found = Nil
 plan_reads (Shuffle number steps) found = Nil
 
@@ -143,12 +143,12 @@ abbrev pub run_reads : Option (List ℕ) → ℕ → Plan → Option (List ℕ) 
 run_reads found limit plan schedule = also (read_reasons found limit) (plan_reads plan schedule)
 
 abbrev pub reasons : Command → Input → Reasons
-reasons (Check file) i = also (read_reasons i.first FILE_LIMIT) (source_reasons i.first)
-reasons (Compile file image) i = also (read_reasons i.first FILE_LIMIT) (source_reasons i.first)
-reasons (Run image r) i = also (run_reads i.first IMAGE_LIMIT r.plan i.schedule) (image_reasons i.first)
-reasons (Disasm image) i = also (read_reasons i.first IMAGE_LIMIT) (image_reasons i.first)
-reasons (Assemble listing image) i = also (read_reasons i.first LISTING_LIMIT) (listing_reasons i.first)
-reasons (Go file image r) i = also (run_reads i.first FILE_LIMIT r.plan i.schedule) (source_reasons i.first)
+reasons (Check file) i = also (read_reasons i.first MAX_FILE) (source_reasons i.first)
+reasons (Compile file image) i = also (read_reasons i.first MAX_FILE) (source_reasons i.first)
+reasons (Run image r) i = also (run_reads i.first MAX_IMAGE r.plan i.schedule) (image_reasons i.first)
+reasons (Disasm image) i = also (read_reasons i.first MAX_IMAGE) (image_reasons i.first)
+reasons (Assemble listing image) i = also (read_reasons i.first MAX_LISTING) (listing_reasons i.first)
+reasons (Go file image r) i = also (run_reads i.first MAX_FILE r.plan i.schedule) (source_reasons i.first)
 reasons (Gen number image) i = Nil
 
 -- with an image at hand, those of messages

@@ -12,14 +12,14 @@ use Rattle.redn_check.specs.Rules.{Accepts, faults}
 use Rattle.redn_top.specs.declared.status.Status.{Status}
 use Rattle.redn_top.specs.declared.status.Status.TheVariants as status
 use Rattle.redn_command.specs.Words.{MessageWord, Plan, Schedule, Fair, Shuffle, Command, Run, Go, RunWords}
-use Rattle.redn_command.specs.declared.limits.TheConstants.{MOST_STEPS}
+use Rattle.redn_command.specs.declared.limits.TheConstants.{MAX_STEPS}
 use Rattle.hex.specs.Hex.{decode_of}
 use Rattle.redn_top.specs.MessageWords.{bad_hex, messages}
 use Rattle.redn_top.specs.Sources.{TextRefused, RuleBroken}
 use Rattle.redn_top.specs.RunText.{BreaksOff, MeetsBad, StopsAt, steps_asked, made_text}
 use Rattle.redn_top.specs.Reasons.{Finds, IsPlanInput, Reasons, First, read_reasons, run_reads}
 use Rattle.redn_top.specs.Answers.{Written, with_written, kept, Ran, IsPartBy, RunsMade, RunsImage}
-use Rattle.redn_top.specs.declared.limits.TheConstants.{SCHEDULE_LIMIT}
+use Rattle.redn_top.specs.declared.limits.TheConstants.{MAX_SCHEDULE}
 
 -- a file that is held and short enough
 pub record IsHeld (told : Option Files) (name : List ℕ) (limit : ℕ) (bytes : List ℕ) : Type 0 where
@@ -43,14 +43,14 @@ pub record ReadRefused (told : Option Files) (name : List ℕ) (limit : ℕ) (be
 -- a schedule that is held and short enough, where the plan reads one
 abbrev pub IsPlanHeld : Option Files → Plan → Option (List ℕ) → Type 0
 IsPlanHeld told (Schedule file) None = ⊥
-IsPlanHeld told (Schedule file) (Some text) = IsHeld told file SCHEDULE_LIMIT text
+IsPlanHeld told (Schedule file) (Some text) = IsHeld told file MAX_SCHEDULE text
 IsPlanHeld told (Fair steps) text = text ≡ None
 IsPlanHeld told (Shuffle number steps) text = text ≡ None
 
 -- the text of a schedule, where the plan has one
 abbrev pub HasText : Plan → Option (List ℕ) → Type 0
 HasText (Schedule file) None = ⊥
-HasText (Schedule file) (Some text) = length text ≤ SCHEDULE_LIMIT
+HasText (Schedule file) (Some text) = length text ≤ MAX_SCHEDULE
 HasText (Fair steps) text = text ≡ None
 HasText (Shuffle number steps) text = text ≡ None
 
@@ -176,7 +176,7 @@ MadeRefused s steps acts before now _ = ⊥
 
 -- few enough steps
 abbrev pub IsFew : Plan → Type 0
-IsFew p = steps_asked p ≤ MOST_STEPS
+IsFew p = steps_asked p ≤ MAX_STEPS
 
 -- a plan that makes the actions
 abbrev pub MakesActions : Plan → Type 0
@@ -190,10 +190,6 @@ WriteRefused before now status.WriteFailed = WriteFailed before now
 WriteRefused before now status.Memory = now ≡ before
 WriteRefused before now _ = ⊥
 
-abbrev pub OnlyMemory : Status → Type 0
-OnlyMemory status.Memory = Unit {0}
-OnlyMemory _ = ⊥
-
 -- ---- a run by its plan
 
 abbrev pub run_of : Plan → Option (List ℕ) → List MessageWord → RunWords
@@ -202,8 +198,8 @@ run_of plan keep messages = record { plan = plan; keep = keep; messages = messag
 -- a schedule's steps aren't recorded, and others are few enough
 abbrev pub IsRunnable : Plan → Option (List ℕ) → Type 0
 IsRunnable (Schedule file) keep = keep ≡ None
-IsRunnable (Fair steps) keep = steps ≤ MOST_STEPS
-IsRunnable (Shuffle number steps) keep = steps ≤ MOST_STEPS
+IsRunnable (Fair steps) keep = steps ≤ MAX_STEPS
+IsRunnable (Shuffle number steps) keep = steps ≤ MAX_STEPS
 
 abbrev pub CanRun : Command → Type 0
 CanRun (Run image r) = IsRunnable r.plan r.keep

@@ -17,7 +17,7 @@ ghost use Rattle.redn_top.specs.Sources.{Means};
 ghost use Rattle.redn_top.specs.Reasons.{NoneHolds, image_reasons, listing_reasons, source_reasons};
 ghost use Rattle.redn_top.specs.Refusals.{IsHeld, IsPlanHeld, ReadRefused, Refuses, RunReadRefused};
 
-use crate::limits::{FILE_LIMIT, SCHEDULE_LIMIT};
+use crate::limits::{MAX_FILE, MAX_SCHEDULE};
 use crate::source::read_program;
 use crate::status::{ImageFault, Status, TextFault};
 use redn_command::Plan;
@@ -77,7 +77,7 @@ pub fn read_run<S: Store>(
     let first = read_file(alloc, store, name, limit)?;
     match plan {
         Plan::Schedule { file } => {
-            let second = read_file(alloc, store, file.as_str(), SCHEDULE_LIMIT)?;
+            let second = read_file(alloc, store, file.as_str(), MAX_SCHEDULE)?;
             Ok((first, Some(second)))
         }
         Plan::Fair { .. } | Plan::Shuffle { .. } => Ok((first, None)),
@@ -86,7 +86,7 @@ pub fn read_run<S: Store>(
 
 /// The program of a source text.
 pub fn program_in(alloc: Global, text: &[u8]) -> Result<Program, Status>
-    requires { length text.now ≤ FILE_LIMIT }
+    requires { length text.now ≤ MAX_FILE }
     ensures means { IfOk result (Means text.now) }
     ensures sound { IfOk result IsSound }
     ensures accepted { OnOk result (NoneHolds (source_reasons (Some text.now))) }

@@ -13,7 +13,7 @@ ghost use Rattle.redn_check.specs.Numbering.{program_of};
 ghost use Rattle.redn_top.specs.Sources.{IsTextOf, Means, token_place};
 ghost use Rattle.redn_top.specs.Refusals.{SourceRefused, TreeRefused, RulesRefused};
 
-use crate::limits::FILE_LIMIT;
+use crate::limits::MAX_FILE;
 use crate::status::{Status, TextFault};
 use redn_check::{CheckFault, check};
 use redn_kernel::Program;
@@ -34,7 +34,7 @@ fn place_of(tokens: &Tokens, token: u64) -> u64
 
 /// The tokens of a text, or why it has none.
 fn tokens_of(alloc: Global, text: &[u8]) -> Result<Tokens, Status>
-    requires { length text.now ≤ FILE_LIMIT }
+    requires { length text.now ≤ MAX_FILE }
     ensures text { IfOk result (λ tokens. tokens.text.items ≡ text.now) }
     ensures tokens { IfOk result (λ tokens. Tokenizes text.now tokens.list.items) }
     ensures only { IfOk result (λ tokens. (others : List Token) → Tokenizes text.now others
@@ -53,7 +53,7 @@ fn tokens_of(alloc: Global, text: &[u8]) -> Result<Tokens, Status>
 
 /// The tree of a text, in which no block is nested deeper than 64.
 pub fn read_tree(alloc: Global, text: &[u8]) -> Result<File, Status>
-    requires { length text.now ≤ FILE_LIMIT }
+    requires { length text.now ≤ MAX_FILE }
     ensures tree { IfOk result (IsTextOf text.now) }
     ensures writable { IfOk result IsWritable }
     ensures only { IfOk result (λ f. (g : File) → IsTextOf text.now g → f ≡ g) }
@@ -87,7 +87,7 @@ pub fn resolve(alloc: Global, f: &File) -> Result<Program, Status>
 
 /// The program of a source text.
 pub fn read_program(alloc: Global, text: &[u8]) -> Result<Program, Status>
-    requires { length text.now ≤ FILE_LIMIT }
+    requires { length text.now ≤ MAX_FILE }
     ensures means { IfOk result (Means text.now) }
     ensures sound { IfOk result IsSound }
     ensures only { IfOk result (λ p. (q : Program) → Means text.now q → p ≡ q) }
@@ -99,7 +99,7 @@ pub fn read_program(alloc: Global, text: &[u8]) -> Result<Program, Status>
 
 /// The canonical text of an accepted source file.
 pub fn checked_text(alloc: Global, text: &[u8]) -> Result<Vec<u8>, Status>
-    requires { length text.now ≤ FILE_LIMIT }
+    requires { length text.now ≤ MAX_FILE }
     ensures text { IfOk result (λ printed. (f : File) × IsTextOf text.now f × Accepts f
         × (printed.items ≡ canonical_text f)) }
     ensures refused { IfErr result (SourceRefused text.now) }

@@ -1,7 +1,7 @@
 ghost use Rattle.std.specs.Prelude.{◌≡◌, ◌≤◌, ◌+◌, ◌++◌, length, take, decimal, codes};
 ghost use Rattle.redn_top.specs.StatusText.{code_of, image_fault, message_fault, status_text};
 
-use redn_trace::{put_number, put_text};
+use redn_text::{put_number, put_text};
 use redn_words::Memory;
 
 /// Where a source text or a listing goes wrong. Places are in bytes; behind the last token it is the

@@ -16,7 +16,7 @@ ghost use Rattle.redn_top.specs.Answers.{DoneOrWant, Ends, IfSpoken, IsFinish, I
 ghost use Rattle.redn_top.specs.Calls.{AreFirst, Calls, GrewBy, IsDemanded, RecordMade};
 ghost use Rattle.redn_top.specs.Refusals.{CanRun, HasText, IsRunnable, RunEnds, WriteRefused, run_of};
 
-use crate::limits::{FILE_LIMIT, IMAGE_LIMIT, LISTING_LIMIT};
+use crate::limits::{MAX_FILE, MAX_IMAGE, MAX_LISTING};
 use crate::reading::{image_in, image_of_listing, program_in, read_file, read_run};
 use crate::run::{put, put_lines, run_image, run_image_made};
 use crate::source::checked_text;
@@ -115,7 +115,7 @@ fn run_check<S: Store, K: Sink>(
     ensures spares { Spares (Check file.now) (S.seen store.old) (S.seen store.new) }
     ensures calls { Calls (Check file.now) (S.seen store.old) (S.seen store.new) (status_of result) }
 {
-    let source = read_file(alloc, store, file, FILE_LIMIT)?;
+    let source = read_file(alloc, store, file, MAX_FILE)?;
     let text = checked_text(alloc, &source)?;
     put(out, &text)
 }
@@ -123,7 +123,7 @@ fn run_check<S: Store, K: Sink>(
 /// The image of the generated file of a number.
 fn generated_image(alloc: Global, number: u32) -> Result<Image, Memory>
     ensures faithful { IfOk result (λ image. Faithful (generated_program number) image) }
-    ensures small { IfOk result (λ image. length (spelling image) ≤ IMAGE_LIMIT) }
+    ensures small { IfOk result (λ image. length (spelling image) ≤ MAX_IMAGE) }
 {
     let file = gen_file(alloc, number)?;
     match check(alloc, &file) {
@@ -146,7 +146,7 @@ fn run_compile<S: Store, K: Sink>(
     ensures spares { Spares (Compile file.now name.now) (S.seen store.old) (S.seen store.new) }
     ensures calls { Calls (Compile file.now name.now) (S.seen store.old) (S.seen store.new) (status_of result) }
 {
-    let source = read_file(alloc, store, file, FILE_LIMIT)?;
+    let source = read_file(alloc, store, file, MAX_FILE)?;
     let program = program_in(alloc, &source)?;
     let image = compile(alloc, &program)?;
     write_out(alloc, name, &image, store)
@@ -170,7 +170,7 @@ fn run_run<S: Store, K: Sink>(
     ensures calls { Calls (Run name.now (run_of (plan_view plan.now) (option_map string_bytes keep.now) (map message_view messages.now)))
         (S.seen store.old) (S.seen store.new) (status_of result) }
 {
-    let (bytes, schedule) = read_run(alloc, store, name, IMAGE_LIMIT, plan)?;
+    let (bytes, schedule) = read_run(alloc, store, name, MAX_IMAGE, plan)?;
     let image = image_in(alloc, &bytes)?;
     run_planned(alloc, image, plan, keep, messages, schedule, store, out)
 }
@@ -194,7 +194,7 @@ fn run_go<S: Store, K: Sink>(
     ensures calls { Calls (Go file.now name.now (run_of (plan_view plan.now) (option_map string_bytes keep.now) (map message_view messages.now)))
         (S.seen store.old) (S.seen store.new) (status_of result) }
 {
-    let (source, schedule) = read_run(alloc, store, file, FILE_LIMIT, plan)?;
+    let (source, schedule) = read_run(alloc, store, file, MAX_FILE, plan)?;
     let program = program_in(alloc, &source)?;
     let image = compile(alloc, &program)?;
     write_out(alloc, name, &image, store)?;
@@ -213,7 +213,7 @@ fn run_disasm<S: Store, K: Sink>(
     ensures spares { Spares (Disasm name.now) (S.seen store.old) (S.seen store.new) }
     ensures calls { Calls (Disasm name.now) (S.seen store.old) (S.seen store.new) (status_of result) }
 {
-    let bytes = read_file(alloc, store, name, IMAGE_LIMIT)?;
+    let bytes = read_file(alloc, store, name, MAX_IMAGE)?;
     let image = image_in(alloc, &bytes)?;
     let text = listing(alloc, &image)?;
     put_lines(out, &text)
@@ -232,7 +232,7 @@ fn run_assemble<S: Store, K: Sink>(
     ensures spares { Spares (Assemble file.now name.now) (S.seen store.old) (S.seen store.new) }
     ensures calls { Calls (Assemble file.now name.now) (S.seen store.old) (S.seen store.new) (status_of result) }
 {
-    let text = read_file(alloc, store, file, LISTING_LIMIT)?;
+    let text = read_file(alloc, store, file, MAX_LISTING)?;
     let image = image_of_listing(alloc, &text)?;
     write_out(alloc, name, &image, store)
 }

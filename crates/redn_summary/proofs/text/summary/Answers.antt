@@ -4,7 +4,7 @@ use Rattle.std.specs.Option.{option_map}
 use Rattle.std.proofs.lemmas.List.{length-map}
 use Rattle.std.proofs.lemmas.Result.{IfOk-weaker}
 use Rattle.redn_adapter.specs.declared.opening.OpenFault.TheVariants.{Message}
-use Rattle.redn_summary.specs.declared.run.TheConstants.{MOST_STEPS}
+use Rattle.redn_summary.specs.declared.run.TheConstants.{MAX_SUMMARY_STEPS}
 use Rattle.redn_summary.specs.Counting.{told}
 use Rattle.redn_summary.specs.Summary.{summary}
 use Rattle.redn_summary.proofs.Messages.{no_misfit}
@@ -28,5 +28,5 @@ returns c =
     let seen : length list.items ≡ length messages = sym (length-map list.items (option_map (λ (v : Vec ℕ). v.items))) ∙ ap length c.messages.view_is in
     let chains : c.len-chains.result ≡ length messages = omega (arith, c.len-chains.ensures, list.ok, seen) in
     let same =
-    summary_told n low c.each_chain_replies.ensures c.args.image c.requires MOST_STEPS refl messages c.in-Ok.adapter c.in_ok-fair.fair c.len-chains.result c.in_ok-messages.ensures.messages c.in-Ok.ensures.state c.in_ok-fair.ensures chains c.in_ok-counted.counted c.in_ok-counted.ensures in
-    IfOk-weaker c.tell.result (λ (text : Vec ℕ). text.items ≡ told n c.len-chains.result MOST_STEPS c.in_ok-counted.counted) (λ (text : Vec ℕ). text.items ≡ summary n c.args.image) (λ text e. e ∙ same) c.tell.ensures
+    summary_told n low c.each_chain_replies.ensures c.args.image c.requires MAX_SUMMARY_STEPS refl messages c.in-Ok.adapter c.in_ok-fair.fair c.len-chains.result c.in_ok-messages.ensures.messages c.in-Ok.ensures.state c.in_ok-fair.ensures chains c.in_ok-counted.counted c.in_ok-counted.ensures in
+    IfOk-weaker c.tell.result (λ (text : Vec ℕ). text.items ≡ told n c.len-chains.result MAX_SUMMARY_STEPS c.in_ok-counted.counted) (λ (text : Vec ℕ). text.items ≡ summary n c.args.image) (λ text e. e ∙ same) c.tell.ensures

@@ -7,7 +7,7 @@ use Rattle.redn_top.specs.Reasons.{NoneHolds, listing_reasons}
 use Rattle.redn_top.specs.Refusals.{Refuses}
 use Rattle.redn_top.proofs.Ending.{assemble_unread, assemble_refused, assemble_written}
 use Rattle.redn_command.specs.Words.{Assemble}
-use Rattle.redn_top.specs.declared.limits.TheConstants.{LISTING_LIMIT}
+use Rattle.redn_top.specs.declared.limits.TheConstants.{MAX_LISTING}
 use Rattle.redn_top.specs.Reasons.{read_reasons}
 use Rattle.redn_top.proofs.CallsMade.{unread_calls, refused_calls, written_calls}
 use Rattle.redn_top.proofs.top.run_assemble.Goals as goal
@@ -34,7 +34,7 @@ pub returns-in_err-text-clause-calls : goal.returns-in_err-text-clause-calls
 returns-in_err-text-clause-calls g c =
     let p = err_from_is_err_and c.from_residual.result c.from_residual.ensures.1 in
     let x = c.in_err-text.ensures.refused in
-    rw (p.1, p.2) (unread_calls (Assemble c.args.file.now c.args.name.now) (g.S.Store.seen c.args.store.now) (g.S.Store.seen c.read_file.new.store) (read_reasons x.file LISTING_LIMIT) c.in_err-text.field-0.0 x.refuses c.in_err-text.ensures.made)
+    rw (p.1, p.2) (unread_calls (Assemble c.args.file.now c.args.name.now) (g.S.Store.seen c.args.store.now) (g.S.Store.seen c.read_file.new.store) (read_reasons x.file MAX_LISTING) c.in_err-text.field-0.0 x.refuses c.in_err-text.ensures.made)
 
 pub returns-in_err-image-clause-calls : goal.returns-in_err-image-clause-calls
 returns-in_err-image-clause-calls g c =

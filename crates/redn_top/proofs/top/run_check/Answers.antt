@@ -4,7 +4,7 @@ use Rattle.redn_top.specs.Sources.{IsTextOf}
 use Rattle.redn_top.specs.Refusals.{SourceRefused}
 use Rattle.redn_top.proofs.Ending.{check_unread, check_refused, check_put}
 use Rattle.redn_command.specs.Words.{Check}
-use Rattle.redn_top.specs.declared.limits.TheConstants.{FILE_LIMIT}
+use Rattle.redn_top.specs.declared.limits.TheConstants.{MAX_FILE}
 use Rattle.redn_top.specs.Reasons.{read_reasons}
 use Rattle.redn_top.proofs.CallsMade.{unread_calls, refused_source_calls, put_calls}
 use Rattle.redn_top.proofs.top.run_check.Goals as goal
@@ -31,7 +31,7 @@ pub returns-in_err-source-clause-calls : goal.returns-in_err-source-clause-calls
 returns-in_err-source-clause-calls g c =
     let p = err_from_is_err_and c.from_residual.result c.from_residual.ensures.1 in
     let x = c.in_err-source.ensures.refused in
-    rw (p.1, p.2) (unread_calls (Check c.args.file.now) (g.S.Store.seen c.args.store.now) (g.S.Store.seen c.read_file.new.store) (read_reasons x.file FILE_LIMIT) c.in_err-source.field-0.0 x.refuses c.in_err-source.ensures.made)
+    rw (p.1, p.2) (unread_calls (Check c.args.file.now) (g.S.Store.seen c.args.store.now) (g.S.Store.seen c.read_file.new.store) (read_reasons x.file MAX_FILE) c.in_err-source.field-0.0 x.refuses c.in_err-source.ensures.made)
 
 pub returns-in_err-text-clause-calls : goal.returns-in_err-text-clause-calls
 returns-in_err-text-clause-calls g c =

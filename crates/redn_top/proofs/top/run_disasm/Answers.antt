@@ -6,7 +6,7 @@ use Rattle.redn_top.specs.Reasons.{NoneHolds, image_reasons}
 use Rattle.redn_top.specs.Refusals.{Refuses}
 use Rattle.redn_top.proofs.Ending.{disasm_unread, disasm_refused, disasm_put}
 use Rattle.redn_command.specs.Words.{Disasm}
-use Rattle.redn_top.specs.declared.limits.TheConstants.{IMAGE_LIMIT}
+use Rattle.redn_top.specs.declared.limits.TheConstants.{MAX_IMAGE}
 use Rattle.redn_top.specs.Reasons.{read_reasons}
 use Rattle.redn_top.proofs.CallsMade.{unread_calls, refused_calls, wants_calls, lines_calls}
 use Rattle.redn_top.proofs.top.run_disasm.Goals as goal
@@ -33,7 +33,7 @@ pub returns-in_err-bytes-clause-calls : goal.returns-in_err-bytes-clause-calls
 returns-in_err-bytes-clause-calls g c =
     let p = err_from_is_err_and c.from_residual.result c.from_residual.ensures.1 in
     let x = c.in_err-bytes.ensures.refused in
-    rw (p.1, p.2) (unread_calls (Disasm c.args.name.now) (g.S.Store.seen c.args.store.now) (g.S.Store.seen c.read_file.new.store) (read_reasons x.file IMAGE_LIMIT) c.in_err-bytes.field-0.0 x.refuses c.in_err-bytes.ensures.made)
+    rw (p.1, p.2) (unread_calls (Disasm c.args.name.now) (g.S.Store.seen c.args.store.now) (g.S.Store.seen c.read_file.new.store) (read_reasons x.file MAX_IMAGE) c.in_err-bytes.field-0.0 x.refuses c.in_err-bytes.ensures.made)
 
 pub returns-in_err-image-clause-calls : goal.returns-in_err-image-clause-calls
 returns-in_err-image-clause-calls g c =

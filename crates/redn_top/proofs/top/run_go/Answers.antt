@@ -10,7 +10,7 @@ use Rattle.redn_top.specs.Refusals.{Refuses, run_of}
 use Rattle.redn_top.proofs.Endings.{go_unread, go_refused, go_unwritten, go_ends, has_text, others_stay}
 use Rattle.redn_command.specs.Words.{Go}
 use Rattle.redn_outside.specs.Calls.{Writes}
-use Rattle.redn_top.specs.declared.limits.TheConstants.{FILE_LIMIT}
+use Rattle.redn_top.specs.declared.limits.TheConstants.{MAX_FILE}
 use Rattle.redn_top.specs.Calls.{reads_of}
 use Rattle.redn_top.proofs.CallsMade.{both, unread_calls, refused_calls, wants_calls, unwritten_calls, run_calls}
 use Rattle.redn_top.proofs.top.run_go.Goals as goal
@@ -66,7 +66,7 @@ returns-in_err-source-clause-calls g c =
     let r = run_of (plan_view c.args.plan.now) (option_map string_bytes c.args.keep.now) (map message_view c.args.messages.now) in
     let p = err_from_is_err_and c.from_residual.result c.from_residual.ensures.1 in
     let x = c.in_err-source.ensures.refused in
-    rw (p.1, p.2) (unread_calls (Go c.args.file.now c.args.name.now r) (g.S.Store.seen c.args.store.now) (g.S.Store.seen c.read_run.new.store) (run_reads x.file FILE_LIMIT r.plan x.schedule) c.in_err-source.field-0.0 x.refuses c.in_err-source.ensures.made)
+    rw (p.1, p.2) (unread_calls (Go c.args.file.now c.args.name.now r) (g.S.Store.seen c.args.store.now) (g.S.Store.seen c.read_run.new.store) (run_reads x.file MAX_FILE r.plan x.schedule) c.in_err-source.field-0.0 x.refuses c.in_err-source.ensures.made)
 
 pub returns-in_err-program-clause-calls : goal.returns-in_err-program-clause-calls
 returns-in_err-program-clause-calls g c =

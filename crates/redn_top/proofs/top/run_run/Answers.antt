@@ -10,7 +10,7 @@ use Rattle.redn_top.specs.Reasons.{NoneHolds, image_reasons, run_reads}
 use Rattle.redn_top.specs.Refusals.{Refuses, run_of}
 use Rattle.redn_top.proofs.Endings.{run_unread, run_refused, run_ends, has_text}
 use Rattle.redn_command.specs.Words.{Run}
-use Rattle.redn_top.specs.declared.limits.TheConstants.{IMAGE_LIMIT}
+use Rattle.redn_top.specs.declared.limits.TheConstants.{MAX_IMAGE}
 use Rattle.redn_top.specs.Calls.{reads_of}
 use Rattle.redn_top.proofs.CallsMade.{unread_calls, refused_calls, run_calls}
 use Rattle.redn_top.proofs.top.run_run.Goals as goal
@@ -45,7 +45,7 @@ returns-in_err-bytes-clause-calls g c =
     let r = run_of (plan_view c.args.plan.now) (option_map string_bytes c.args.keep.now) (map message_view c.args.messages.now) in
     let p = err_from_is_err_and c.from_residual.result c.from_residual.ensures.1 in
     let x = c.in_err-bytes.ensures.refused in
-    rw (p.1, p.2) (unread_calls (Run c.args.name.now r) (g.S.Store.seen c.args.store.now) (g.S.Store.seen c.read_run.new.store) (run_reads x.file IMAGE_LIMIT r.plan x.schedule) c.in_err-bytes.field-0.0 x.refuses c.in_err-bytes.ensures.made)
+    rw (p.1, p.2) (unread_calls (Run c.args.name.now r) (g.S.Store.seen c.args.store.now) (g.S.Store.seen c.read_run.new.store) (run_reads x.file MAX_IMAGE r.plan x.schedule) c.in_err-bytes.field-0.0 x.refuses c.in_err-bytes.ensures.made)
 
 pub returns-in_err-image-clause-calls : goal.returns-in_err-image-clause-calls
 returns-in_err-image-clause-calls g c =
