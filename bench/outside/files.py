@@ -6,7 +6,7 @@ import time
 
 from outside.rooms import ECHO, ECHO_TEXT, KEY, LISTING, NOBODY, answer, changed, has, held, image_bytes
 
-FILE_LIMIT = 1_048_576
+MAX_FILE = 1_048_576
 FEW = 100  # bytes of a file, where so many may be written
 LONG = "redn: file too long: limit 1048576"
 STEPS_MADE = "f 0 0\ns 0\nl 0 0\nc 0\nf 0 1\ns 0\nl 0 1\nc 0\n"
@@ -70,9 +70,9 @@ def pieces(room):
     yield "FILE comes through a pipe, 300,000 bytes", answer(0, printed=ECHO_TEXT), room.ran(path, "check", "large")
     room.put(path, "empty", b"")
     yield "FILE is empty", answer(6, "redn: text refused: byte 0"), room.ran(path, "check", "empty")
-    room.put(path, "most", b" " * (FILE_LIMIT - len(source)) + source)
+    room.put(path, "most", b" " * (MAX_FILE - len(source)) + source)
     yield "FILE is as long as it may be", answer(0, printed=ECHO_TEXT), room.ran(path, "check", "most")
-    room.put(path, "more", b" " * (FILE_LIMIT + 1 - len(source)) + source)
+    room.put(path, "more", b" " * (MAX_FILE + 1 - len(source)) + source)
     yield "FILE is one byte longer", answer(5, LONG), room.ran(path, "check", "more")
     yield "FILE never ends", answer(5, LONG), room.ran(path, "check", "/dev/zero")
     # What is read there is read in eights of bytes: 1,048,577 can't be read to their end.

@@ -15,7 +15,7 @@ VERBS = {
 }
 OPTIONS = {"--schedule": "F", "--fair": "N", "--shuffle": "S", "--steps": "N", "--record": "R"}
 PLAN = "--schedule F, or --fair N, or --shuffle S --steps N; with the last two perhaps --record R"
-MOST_STEPS, MOST_RECORDED, MOST_CHAIN, MOST_WORD = 4_000_000, 500_000, 2**32 - 1, 2**64 - 1
+MAX_STEPS, MAX_RECORDED, MOST_CHAIN, MOST_WORD = 4_000_000, 500_000, 2**32 - 1, 2**64 - 1
 
 
 def form(verb):
@@ -82,7 +82,7 @@ def wrong_plan(options):
         return "--record doesn't go with --schedule"
     if ("--steps" in options) != (plans == ["--shuffle"]):
         return "--shuffle and --steps go together, and with nothing else"
-    most = MOST_RECORDED if "--record" in options else MOST_STEPS
+    most = MAX_RECORDED if "--record" in options else MAX_STEPS
     limits = {"--fair": most, "--steps": most, "--shuffle": MOST_WORD}
     found = (wrong_number(f"the value of {it}", options[it], limits[it]) for it in limits if it in options)
     return next(filter(None, found), None)
